@@ -1,0 +1,24 @@
+-- The local test (document 001, equation 3) of a part with period P, the tasks `ts` and the locks 1 to m, under the setting σ.
+--   taskPasses P Q blocking task higher == some t, 1 ≤ t ≤ D_i, has C_i + Σ_{k>i} ⌈t/T_k⌉×C_k + blocking ≤ supply(t)
+--   passes P ts m σ Q      == a budget Q passes: every task i does
+--   leastBudget P ts m σ   == the least Q, 1 ≤ Q ≤ P, that passes, if there is one
+-- Assumes nothing.
+use Prim.Native.Nat.{ℕ}
+use mathlib.Core.Bool.{Bool}
+use mathlib.Core.List.{List}
+use lib.Dec.{leb}
+use Rattle.least.specs.declared.Least.{Least}
+use Rattle.least.specs.Search.{leastUpTo, anyUpTo}
+use Rattle.least.specs.Lists.{everyAlong}
+use Rattle.supply.specs.Supply.{supplyOf}
+use Rattle.task_set.specs.declared.Task.{Task}
+use Rattle.task_set.specs.Blocking.{Setting, blockingOf, needOf}
+
+unfoldable pub taskPasses : ℕ → ℕ → ℕ → Task → List Task → Bool
+taskPasses P Q blocking task higher = anyUpTo (λ t. leb (needOf blocking task higher t) (supplyOf P Q t)) (task .deadline)
+
+unfoldable pub passes : ℕ → List Task → ℕ → Setting → ℕ → Bool
+passes P ts m σ Q = everyAlong (λ lower task higher. taskPasses P Q (blockingOf m σ lower) task higher) ts
+
+unfoldable pub leastBudget : ℕ → List Task → ℕ → Setting → Least
+leastBudget P ts m σ = leastUpTo (passes P ts m σ) P

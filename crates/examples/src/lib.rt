@@ -1,0 +1,1 @@
+// Examples A to L of paper 01, as theorems.

@@ -1,0 +1,1 @@
+// Holding times of locks and of settings.

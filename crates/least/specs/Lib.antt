@@ -1,0 +1,5 @@
+pub mod Round
+pub mod Search
+pub mod Lists
+pub mod Each
+pub mod Fraction

@@ -1,0 +1,58 @@
+-- The listing of a plan, byte for byte.
+--   Ceiling    == a lock's name and its ceiling, a task number
+--   Share      == what is printed of a part: its name, its row, the row's bound, and its locks' ceilings in order of first mention
+--   shareLines == `share` name P Q X L t, then a `ceiling` line for each lock
+--   loadLine   == `load` name L t of a share
+--   listingOf  == the `load` line of the first share that reaches the load, then every share in file order
+--   refusedLine == `refused` number place
+-- Assumes nothing.
+use Prim.Native.Nat.{ℕ}
+use mathlib.Core.List.{List, [], _∷_, _++_, map}
+use lib.ListN.{take}
+use Rattle.least.specs.declared.Frac.{Frac}
+use Rattle.least.specs.Lists.{those, joined}
+use Rattle.least.specs.Fraction.{atMost, greatestOf}
+use Rattle.text.specs.Bytes.{bytes, lineOf}
+use Rattle.text.specs.Decimal.{digitsOf}
+use Rattle.load.specs.declared.Row.{Row}
+
+pub record Ceiling : Type 0 where
+  pub lock : List ℕ
+  pub number : ℕ
+
+pub record Share : Type 0 where
+  pub name : List ℕ
+  pub row : Row
+  pub bound : Frac
+  pub ceilings : List Ceiling
+
+unfoldable pub ceilingLine : Ceiling → List ℕ
+ceilingLine c = lineOf (bytes "ceiling" ∷ c .lock ∷ digitsOf (c .number) ∷ [])
+
+unfoldable pub shareLine : Share → List ℕ
+shareLine s =
+    lineOf
+    (bytes "share"
+    ∷ s .name
+    ∷ digitsOf (s .row .period)
+    ∷ digitsOf (s .row .budget)
+    ∷ digitsOf (s .row .holding)
+    ∷ digitsOf (s .bound .num)
+    ∷ digitsOf (s .bound .den)
+    ∷ [])
+
+unfoldable pub shareLines : Share → List ℕ
+shareLines s = shareLine s ++ joined (map ceilingLine (s .ceilings))
+
+unfoldable pub loadLine : Share → List ℕ
+loadLine s = lineOf (bytes "load" ∷ s .name ∷ digitsOf (s .bound .num) ∷ digitsOf (s .bound .den) ∷ [])
+
+-- the first share whose bound reaches the load
+unfoldable pub loadShare : List Share → List Share
+loadShare shares = take 1 (those (λ s. atMost (greatestOf (map (λ k. k .bound) shares)) (s .bound)) shares)
+
+unfoldable pub listingOf : List Share → List ℕ
+listingOf shares = joined (map loadLine (loadShare shares)) ++ joined (map shareLines shares)
+
+unfoldable pub refusedLine : ℕ → ℕ → List ℕ
+refusedLine number place = lineOf (bytes "refused" ∷ digitsOf number ∷ digitsOf place ∷ [])

@@ -1,0 +1,47 @@
+-- Weighing rows that were set by hand: questions 12 and 13, then every row's bound and the load.
+--   rowInRange r == 1 ≤ Q ≤ P ≤ 65,535 and X ≤ 65,535
+--   weighQuestions rows == questions 12 (0 for a wrong row count, else the first bad row) and 13 (first row without a time t)
+--   weighOf rows == the answer, for every list of rows
+--   rowsOf rows  == the rows that the struct `Rows` holds
+-- Assumes nothing.
+use Prim.Native.Nat.{ℕ}
+use mathlib.Core.Bool.{Bool, not, _&&_}
+use mathlib.Core.List.{List, [], _∷_}
+use lib.Dec.{leb, eqb}
+use lib.ListN.{length, take}
+use Rattle.least.specs.declared.Frac.{Frac}
+use Rattle.least.specs.Lists.{every, firstOf, pad}
+use Rattle.least.specs.Fraction.{frac}
+use Rattle.refusal.specs.declared.Outcome.{Outcome}
+use Rattle.refusal.specs.declared.Outcome.the-variants.{Done, Refused}
+use Rattle.refusal.specs.declared.Refusal.the-variants.{BadHandSet, NoTime}
+use Rattle.refusal.specs.Limits.{numberLimit, rowLimit}
+use Rattle.refusal.specs.Questions.{Question, ask, firstNo}
+use Rattle.load.specs.declared.Row.{Row}
+use Rattle.load.specs.declared.Rows.{Rows}
+use Rattle.load.specs.declared.Weighed.{Weighed}
+use Rattle.load.specs.Load.{boundsOf, loadOf, loadRow}
+
+unfoldable pub rowInRange : Row → Bool
+rowInRange r = leb 1 (r .budget) && (leb (r .budget) (r .period) && (leb (r .period) numberLimit && leb (r .holding) numberLimit))
+
+-- there is no time t behind the bound 1/0
+abbrev pub hasTime : Frac → Bool
+hasTime b = leb 1 (b .den)
+
+unfoldable pub weighQuestions : List Row → List Question
+weighQuestions rows =
+    ask (BadHandSet 0) (leb 1 (length rows) && leb (length rows) rowLimit)
+    ∷ ask (BadHandSet (firstOf (λ r. not (rowInRange r)) rows)) (every rowInRange rows)
+    ∷ ask (NoTime (firstOf (λ b. not (hasTime b)) (boundsOf rows))) (every hasTime (boundsOf rows))
+    ∷ []
+
+unfoldable pub weighed : Outcome → List Row → Weighed
+weighed Done rows = record { outcome = Done; bounds = pad rowLimit (frac 0 0) (boundsOf rows); load = loadOf rows; row = loadRow rows }
+weighed (Refused r) rows = record { outcome = Refused r; bounds = pad rowLimit (frac 0 0) []; load = frac 0 0; row = 0 }
+
+unfoldable pub weighOf : List Row → Weighed
+weighOf rows = weighed (firstNo (weighQuestions rows)) rows
+
+unfoldable pub rowsOf : Rows → List Row
+rowsOf rows = take (rows .count) (rows .rows)

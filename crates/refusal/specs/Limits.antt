@@ -1,0 +1,29 @@
+-- The limits of paper 01, each named once.
+--   numberLimit == the greatest number of a file, and of a period, a budget, a holding time or a time set by hand
+--   fileLimit   == the greatest length of a file in bytes
+--   partLimit, taskLimit, lockLimit == parts in a file, tasks in a part, different lock names in a part
+--   rowLimit    == rows to be weighed
+--   nameLimit   == bytes in a name
+-- Assumes nothing.
+use Prim.Native.Nat.{ℕ}
+
+abbrev pub numberLimit : ℕ
+numberLimit = 65535
+
+abbrev pub fileLimit : ℕ
+fileLimit = 32768
+
+abbrev pub partLimit : ℕ
+partLimit = 16
+
+abbrev pub taskLimit : ℕ
+taskLimit = 16
+
+abbrev pub lockLimit : ℕ
+lockLimit = 8
+
+abbrev pub rowLimit : ℕ
+rowLimit = 16
+
+abbrev pub nameLimit : ℕ
+nameLimit = 8

@@ -1,0 +1,1 @@
+// The choice of least load among the rows that each part offers.

@@ -1,0 +1,1 @@
+// Bytes, lines, fields and numbers in base ten.
