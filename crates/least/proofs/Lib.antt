@@ -1,1 +1,4 @@
+pub mod Round
+pub mod Search
+pub mod Bisect
 pub mod Lists
