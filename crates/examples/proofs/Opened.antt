@@ -1,7 +1,5 @@
--- Trial.
-use Prim.Native.Nat.{ℕ}
-use mathlib.Core.Path.{_≡_, refl}
-use mathlib.Core.List.{List, [], _∷_}
+-- What the examples compute with: to unfold `opened` is to unfold every definition of paper 01.
+-- Assumes nothing.
 use Rattle.least.specs.Round.{ceilDiv}
 use Rattle.least.specs.Search.{leastFrom, anyFrom, numberOr0}
 use Rattle.least.specs.Lists.{sum, greatest, smallest, countFrom, range, isEmpty, nthOr, every, some, those, joined, numbersFrom, firstFrom, lastOr, onLast, pad, everyBehind, behind}
@@ -9,8 +7,7 @@ use Rattle.least.specs.Fraction.{lesser, greater, leastOver, greatestOf}
 use Rattle.text.specs.Bytes.{bytes, same, among, mention, distinctAfter, intoLine, linesOf, intoField, fieldsOf, lineOf}
 use Rattle.text.specs.Decimal.{isDigit, valueAfter, digitsWithin, digitsOf}
 use Rattle.refusal.specs.Number.{refusalNumber, refusalPlace, numberOf, placeOf}
-use Rattle.refusal.specs.Questions.{firstNo, Answer, outcomeOf, whenAnswered, whenDone}
-use Rattle.refusal.specs.Questions.Answer.{answered, refused}
+use Rattle.refusal.specs.Questions.{firstNo, outcomeOf, whenAnswered, whenDone}
 use Rattle.supply.specs.Supply.{roundOf, supplyAt, supplyOf}
 use Rattle.task_set.specs.Tasks.{heldFor, demandIn, lowestCeiling, greatestHeld, smallestDeadline}
 use Rattle.task_set.specs.Blocking.{blockedBy, blockingOf, needOf}
@@ -27,13 +24,9 @@ use Rattle.plan_file.specs.Numbers.{heldUnder, taskIn, locksIn, tasksIn}
 use Rattle.listing.specs.Listing.{ceilingLine, shareLine, shareLines, loadLine, loadShare, listingOf, refusedLine}
 use Rattle.planner.specs.Parts.{keptPairs, keptRows, ceilingsFrom, shareOf, sharesOf}
 use Rattle.planner.specs.Answers.{planRows, planText, planQuestions, planParts, planOf, candidatesOf, nameOf, supplyAnswer, planned, bufferAfter, candidateList, nameBytes, supplied}
-use Rattle.examples.specs.Files.{fileA, listingA}
+use Rattle.examples.specs.Files.{fileA, listingA, cardAt, listingC, listingD, fileF, onePart, listingI}
+use Rattle.examples.specs.Table.{partsIn, isOn}
 
--- what the examples compute with: to unfold this is to unfold all of these
-opened : Unit {0}
-unfolding ceilDiv leastFrom anyFrom numberOr0 sum greatest smallest countFrom range isEmpty nthOr every some those joined numbersFrom firstFrom lastOr onLast pad everyBehind behind lesser greater leastOver greatestOf bytes same among mention distinctAfter intoLine linesOf intoField fieldsOf lineOf isDigit valueAfter digitsWithin digitsOf refusalNumber refusalPlace numberOf placeOf firstNo outcomeOf whenAnswered whenDone roundOf supplyAt supplyOf heldFor demandIn lowestCeiling greatestHeld smallestDeadline blockedBy blockingOf needOf held holdingOf inRange exists permitted holdingTimeOf taskPasses passes leastBudget settings candidateOf candidatesIn isKept insertByX inFallingX keptAmong keptList keptAnswer shownCeiling demandOf loadAt rowPasses passesSystem ratio boundOf boundsOf loadOf loadRow rowInRange weighQuestions weighed weighOf choices lighter leastLoaded isAllowed lineIsGood isNameByte isName leadingZero isNumber recordOf lockMentions lockNames partsAfter isPart isEnd allowedHere recordQuestions questionsAt readLines readFile heldUnder taskIn locksIn tasksIn ceilingLine shareLine shareLines loadLine loadShare listingOf refusedLine keptPairs keptRows ceilingsFrom shareOf sharesOf planRows planText planQuestions planParts planOf candidatesOf nameOf supplyAnswer planned bufferAfter candidateList nameBytes supplied fileA listingA
+unfoldable pub opened : Unit {0}
+unfolding ceilDiv leastFrom anyFrom numberOr0 sum greatest smallest countFrom range isEmpty nthOr every some those joined numbersFrom firstFrom lastOr onLast pad everyBehind behind lesser greater leastOver greatestOf bytes same among mention distinctAfter intoLine linesOf intoField fieldsOf lineOf isDigit valueAfter digitsWithin digitsOf refusalNumber refusalPlace numberOf placeOf firstNo outcomeOf whenAnswered whenDone roundOf supplyAt supplyOf heldFor demandIn lowestCeiling greatestHeld smallestDeadline blockedBy blockingOf needOf held holdingOf inRange exists permitted holdingTimeOf taskPasses passes leastBudget settings candidateOf candidatesIn isKept insertByX inFallingX keptAmong keptList keptAnswer shownCeiling demandOf loadAt rowPasses passesSystem ratio boundOf boundsOf loadOf loadRow rowInRange weighQuestions weighed weighOf choices lighter leastLoaded isAllowed lineIsGood isNameByte isName leadingZero isNumber recordOf lockMentions lockNames partsAfter isPart isEnd allowedHere recordQuestions questionsAt readLines readFile heldUnder taskIn locksIn tasksIn ceilingLine shareLine shareLines loadLine loadShare listingOf refusedLine keptPairs keptRows ceilingsFrom shareOf sharesOf planRows planText planQuestions planParts planOf candidatesOf nameOf supplyAnswer planned bufferAfter candidateList nameBytes supplied fileA listingA cardAt listingC listingD fileF onePart listingI partsIn isOn
 opened = tt
-
-a : planOf fileA 8192 ≡ answered listingA
-unfolding opened
-a = refl

@@ -1,11 +1,35 @@
 -- The files and listings of examples A to L, byte for byte.
+--   fileA, listingA == example A as it is typed, and as the program prints it
+--   cardAt P        == A with another period of the part card
+--   fileF           == table 1 of document 001, all times doubled, D = T, P = 250, locks r1 and r2
+--   onePart P tasks == a file with one part of period P and the given task lines
 -- Assumes nothing.
 use Prim.Native.Nat.{ℕ}
-use mathlib.Core.List.{List}
+use Prim.Native.String.{String}
+use mathlib.Core.List.{List, _++_}
 use Rattle.text.specs.Bytes.{bytes}
+use Rattle.text.specs.Decimal.{digitsOf}
 
 unfoldable pub fileA : List ℕ
 fileA = bytes "part\tcard\t20\ntask\tcopy\t80\t8\t80\nlock\tbuf\t2\npart\tprint\t10\ntask\tfeed\t60\t6\t60\nlock\tbuf\t3\ntask\thead\t30\t2\t30\nend\n"
 
 unfoldable pub listingA : List ℕ
 listingA = bytes "load\tcard\t17\t20\nshare\tcard\t20\t3\t2\t17\t20\nceiling\tbuf\t1\nshare\tprint\t10\t3\t3\t8\t10\nceiling\tbuf\t2\n"
+
+unfoldable pub cardAt : ℕ → List ℕ
+cardAt P = bytes "part\tcard\t" ++ (digitsOf P ++ bytes "\ntask\tcopy\t80\t8\t80\nlock\tbuf\t2\npart\tprint\t10\ntask\tfeed\t60\t6\t60\nlock\tbuf\t3\ntask\thead\t30\t2\t30\nend\n")
+
+unfoldable pub listingC : List ℕ
+listingC = bytes "load\tcard\t10\t10\nshare\tcard\t10\t2\t2\t10\t10\nceiling\tbuf\t1\nshare\tprint\t10\t3\t3\t8\t10\nceiling\tbuf\t2\n"
+
+unfoldable pub listingD : List ℕ
+listingD = bytes "load\tcard\t9\t9\nshare\tcard\t9\t1\t2\t9\t9\nceiling\tbuf\t1\nshare\tprint\t10\t3\t3\t8\t10\nceiling\tbuf\t2\n"
+
+unfoldable pub fileF : List ℕ
+fileF = bytes "part\ts\t250\ntask\tt1\t1500\t16\t1500\nlock\tr2\t8\ntask\tt2\t1300\t100\t1300\nlock\tr1\t10\ntask\tt3\t1200\t20\t1200\ntask\tt4\t1000\t70\t1000\nlock\tr1\t20\ntask\tt5\t320\t2\t320\ntask\tt6\t300\t4\t300\nend\n"
+
+unfoldable pub onePart : String → String → List ℕ
+onePart P tasks = bytes "part\tp\t" ++ (bytes P ++ (bytes "\n" ++ (bytes tasks ++ bytes "end\n")))
+
+unfoldable pub listingI : List ℕ
+listingI = bytes "load\tp\t10\t10\nshare\tp\t10\t10\t0\t10\t10\n"

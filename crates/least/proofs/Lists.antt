@@ -37,6 +37,10 @@ range-iff a e l = ((λ m. let h = count-from (suc e - a) a l m in (h .0, omega a
 
 module _ {A : Type 0} where
   -- every
+  pub every-none : (test : A → Bool) → every test [] ≡ true
+  unfolding every
+  every-none test = refl
+
   pub every-pass : (test : A → Bool) (x : A) (xs : List A) → test x ≡ true → every test (x ∷ xs) ≡ every test xs
   unfolding every
   every-pass test x xs h = rw (h, every) refl
@@ -58,6 +62,14 @@ module _ {A : Type 0} where
   unfolding every
   every-all test [] h = refl
   every-all test (y ∷ ys) h = every-pass test y ys (h y (List·Memᴰ·head refl)) ∙ every-all test ys (λ x m. h x (List·Memᴰ·tail m))
+
+  pub every-snoc : (test : A → Bool) (xs : List A) (x : A) → every test xs ≡ true → test x ≡ true → every test (xs ++ (x ∷ [])) ≡ true
+  every-snoc test [] x e h = every-pass test x [] h ∙ every-none test
+  every-snoc test (y ∷ ys) x e h = go (test y) refl (λ r. every-snoc test ys x r h)
+    where
+      go : (t : Bool) → test y ≡ t → (every test ys ≡ true → every test (ys ++ (x ∷ [])) ≡ true) → every test (y ∷ (ys ++ (x ∷ []))) ≡ true
+      go true k ih = every-pass test y (ys ++ (x ∷ [])) k ∙ ih (sym (every-pass test y ys k) ∙ e)
+      go false k ih = absurd (false≢true (sym (every-fail test y ys k) ∙ e))
 
   pub every-iff : (test : A → Bool) (xs : List A) → (every test xs ≡ true) ↔ ((x : A) → List·Memᴰ x xs → test x ≡ true)
   every-iff test xs = ((λ e x m. every-member test xs e m), every-all test xs)

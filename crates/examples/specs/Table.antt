@@ -1,0 +1,109 @@
+-- Examples A to L of paper 01 as one table.
+--   Claim    == what an example says of an operation or a definition
+--   Holds c  == that it is so
+--   table    == the claims, with the letters of paper 01
+--   AllHold  == every claim of a table holds
+-- Assumes nothing.
+use Prim.Native.Nat.{ℕ}
+use Prim.Native.String.{String}
+use mathlib.Core.Path.{_≡_}
+use mathlib.Core.Bool.{Bool, true, false, cond}
+use mathlib.Core.List.{List, [], _∷_}
+use lib.Dec.{eqb}
+use Rattle.least.specs.declared.Frac.{Frac}
+use Rattle.least.specs.Lists.{nthOr, some, pad}
+use Rattle.least.specs.Fraction.{frac}
+use Rattle.text.specs.Bytes.{bytes}
+use Rattle.refusal.specs.declared.Outcome.the-variants.{Done}
+use Rattle.refusal.specs.Number.{numberOf, placeOf}
+use Rattle.refusal.specs.Questions.{Answer, outcomeOf, whenAnswered}
+use Rattle.refusal.specs.Questions.Answer.{answered, refused}
+use Rattle.candidates.specs.declared.Pair.{Pair}
+use Rattle.candidates.specs.Candidates.{pair, samePair, candidateOf}
+use Rattle.load.specs.declared.Row.{Row}
+use Rattle.load.specs.Load.{row}
+use Rattle.load.specs.Weigh.{weighOf}
+use Rattle.plan_file.specs.Records.{FilePart, noPart}
+use Rattle.plan_file.specs.Fields.{isNumber}
+use Rattle.plan_file.specs.Reading.{readFile}
+use Rattle.plan_file.specs.Numbers.{tasksIn, locksIn}
+use Rattle.planner.specs.Answers.{planOf, candidatesOf, supplyAnswer}
+use Rattle.examples.specs.Files.{fileA, listingA, cardAt, listingC, listingD, fileF, onePart, listingI}
+
+pub data Claim : Type 0 where
+  -- the file is planned, and this is its listing
+  prints : (file listing : List ℕ) → Claim
+  -- the file is refused with this number and this place
+  refuses : (file : List ℕ) (number place : ℕ) → Claim
+  -- the two files are the same bytes
+  sameFile : (file other : List ℕ) → Claim
+  -- part k of the file, with its locks at the given ceilings, has this candidate
+  offers : (file : List ℕ) (k : ℕ) (ceilings : List ℕ) (c : Pair) → Claim
+  -- the candidate is not on the kept list of part k of the file
+  drops : (file : List ℕ) (k : ℕ) (c : Pair) → Claim
+  -- the kept list of part k of the file
+  keeps : (file : List ℕ) (k : ℕ) (kept : List Pair) → Claim
+  -- the bounds of these rows, their load, and the number of its row
+  weighs : (rows : List Row) (bounds : List Frac) (load : Frac) (row : ℕ) → Claim
+  -- the supply of (P,Q) in t ticks
+  supplies : (P Q t ticks : ℕ) → Claim
+  -- the text is a number of a file
+  isANumber : (text : String) → Claim
+
+-- the parts of a readable file, none of any other
+unfoldable pub partsIn : List ℕ → List FilePart
+partsIn file = elim (readFile file) [ answered parts ↦ parts | refused r ↦ [] ]
+
+abbrev pub partAt : List ℕ → ℕ → FilePart
+partAt file k = nthOr noPart k (partsIn file)
+
+unfoldable pub isOn : Pair → Answer (List Pair) → Bool
+isOn c (answered kept) = some (samePair c) kept
+isOn c (refused r) = false
+
+abbrev pub Holds : Claim → Type 0
+Holds (prints file listing) = planOf file 8192 ≡ answered listing
+Holds (refuses file number place) = (numberOf (outcomeOf (planOf file 8192)) ≡ number) × (placeOf (outcomeOf (planOf file 8192)) ≡ place)
+Holds (sameFile file other) = file ≡ other
+Holds (offers file k ceilings c) =
+    let p = partAt file k in candidateOf (p .period) (tasksIn p) (locksIn p) (λ l. nthOr 0 l ceilings) ≡ c ∷ []
+Holds (drops file k c) = isOn c (candidatesOf file k) ≡ false
+Holds (keeps file k kept) = candidatesOf file k ≡ answered kept
+Holds (weighs rows bounds load row) = weighOf rows ≡ record { outcome = Done; bounds = pad 16 (frac 0 0) bounds; load = load; row = row }
+Holds (supplies P Q t ticks) = supplyAnswer P Q t ≡ answered ticks
+Holds (isANumber text) = isNumber (bytes text) ≡ true
+
+pub record Example : Type 0 where
+  pub letter : String
+  pub claim : Claim
+
+abbrev at : String → Claim → Example
+at letter claim = record { letter = letter; claim = claim }
+
+abbrev pub table : List Example
+table =
+    at "A" (prints fileA listingA)
+    ∷ at "B" (offers fileA 2 (1 ∷ []) (pair 2 5))
+    ∷ at "B" (drops fileA 2 (pair 2 5))
+    ∷ at "C" (sameFile (cardAt 20) fileA)
+    ∷ at "C" (prints (cardAt 10) listingC)
+    ∷ at "D" (prints (cardAt 9) listingD)
+    ∷ at "E" (refuses (cardAt 8) 11 0)
+    ∷ at "F" (keeps fileF 1 (pair 102 26 ∷ pair 105 24 ∷ pair 112 20 ∷ []))
+    ∷ at "G" (weighs (row 96 2 2 ∷ row 20 2 1 ∷ []) (frac 19 96 ∷ frac 5 20 ∷ []) (frac 5 20) 2)
+    ∷ at "H" (refuses [] 4 1)
+    ∷ at "I" (prints (onePart "10" "task\tt\t10\t10\t10\n") listingI)
+    ∷ at "J" (refuses (onePart "10" "task\tt\t10\t6\t10\ntask\tu\t10\t6\t10\n") 10 1)
+    ∷ at "K" (supplies 10 3 14 0)
+    ∷ at "K" (supplies 10 3 15 1)
+    ∷ at "K" (supplies 10 3 17 3)
+    ∷ at "K" (supplies 10 3 24 3)
+    ∷ at "K" (supplies 10 3 25 4)
+    ∷ at "L" (isANumber "65535")
+    ∷ at "L" (refuses (onePart "65536" "task\tt\t10\t1\t10\n") 7 1)
+    ∷ at "L" (refuses (onePart "010" "task\tt\t10\t1\t10\n") 7 1)
+    ∷ []
+
+abbrev pub AllHold : List Example → Type 0
+AllHold [] = Unit {0}
+AllHold (e ∷ es) = Holds (e .claim) × AllHold es

@@ -1,0 +1,71 @@
+-- What a well-formed number and a well-formed name are, in the paper's words; and that every number from 1 to 65,535 is well formed as it is printed.
+-- Assumes nothing.
+use Prim.Native.Nat.{ℕ, _≤_}
+use native.Mathlib.Omega.{arith}
+use mathlib.Core.Path.{_≡_, refl, sym, ap, _∙_}
+use mathlib.Core.Logic.{_↔_}
+use mathlib.Core.Bool.{Bool, true, false, not, _&&_, false≢true}
+use mathlib.Core.List.{List, [], _∷_}
+use borrow.Author.Tests.{leb-true, le-leb, ne-eqb, not-true}
+use lib.Dec.{leb}
+use lib.ListN.{length}
+use Rattle.least.specs.Lists.{every}
+use Rattle.text.specs.Decimal.{isDigit, valueOf, digitsOf}
+use Rattle.text.proofs.Decimal.{FirstDigit, value-digits, digits-digits, digits-first}
+use Rattle.plan_file.specs.Fields.{isNameByte, isName, leadingZero, isNumber}
+
+both : (a b : Bool) → a && b ≡ true → (a ≡ true) × (b ≡ true)
+both true b e = (refl, e)
+both false b e = absurd (false≢true e)
+
+both-true : (a b : Bool) → a ≡ true → b ≡ true → a && b ≡ true
+both-true a b e f = simp (e, f)
+
+-- a number of a file: digits, without leading zero, from 1 to 65,535
+pub record Number (bs : List ℕ) : Type 0 where
+  pub digits : every isDigit bs ≡ true
+  pub plain : leadingZero bs ≡ false
+  pub from : 1 ≤ valueOf bs
+  pub to : valueOf bs ≤ 65535
+
+pub number-iff : (bs : List ℕ) → (isNumber bs ≡ true) ↔ Number bs
+unfolding isNumber
+number-iff bs = (is, so)
+  where
+    is : (every isDigit bs && not (leadingZero bs)) && (leb 1 (valueOf bs) && leb (valueOf bs) 65535) ≡ true → Number bs
+    is e =
+        let p = both (every isDigit bs && not (leadingZero bs)) (leb 1 (valueOf bs) && leb (valueOf bs) 65535) e in
+        let d = both (every isDigit bs) (not (leadingZero bs)) (p .0) in
+        let v = both (leb 1 (valueOf bs)) (leb (valueOf bs) 65535) (p .1) in
+        record { digits = d .0; plain = not-true (leadingZero bs) (d .1); from = leb-true 1 (valueOf bs) (v .0); to = leb-true (valueOf bs) 65535 (v .1) }
+
+    so : Number bs → (every isDigit bs && not (leadingZero bs)) && (leb 1 (valueOf bs) && leb (valueOf bs) 65535) ≡ true
+    so n = simp (n .digits, n .plain, le-leb 1 (valueOf bs) (n .from), le-leb (valueOf bs) 65535 (n .to))
+
+plain-first : (bs : List ℕ) → FirstDigit bs → leadingZero bs ≡ false
+unfolding leadingZero
+plain-first [] h = absurd h
+plain-first (b ∷ bs) h = ne-eqb b 48 (λ e. omega arith)
+
+pub number-digits : (n : ℕ) → 1 ≤ n → n ≤ 65535 → isNumber (digitsOf n) ≡ true
+number-digits n h k =
+    number-iff (digitsOf n) .1 (record { digits = digits-digits n; plain = plain-first (digitsOf n) (digits-first n h); from = rw (value-digits n) h; to = rw (value-digits n) k })
+
+-- a name of a file: 1 to 8 bytes from a–z and 0–9
+pub record Name (bs : List ℕ) : Type 0 where
+  pub from : 1 ≤ length bs
+  pub to : length bs ≤ 8
+  pub bytes : every isNameByte bs ≡ true
+
+pub name-iff : (bs : List ℕ) → (isName bs ≡ true) ↔ Name bs
+unfolding isName
+name-iff bs = (is, so)
+  where
+    is : (leb 1 (length bs) && leb (length bs) 8) && every isNameByte bs ≡ true → Name bs
+    is e =
+        let p = both (leb 1 (length bs) && leb (length bs) 8) (every isNameByte bs) e in
+        let l = both (leb 1 (length bs)) (leb (length bs) 8) (p .0) in
+        record { from = leb-true 1 (length bs) (l .0); to = leb-true (length bs) 8 (l .1); bytes = p .1 }
+
+    so : Name bs → (leb 1 (length bs) && leb (length bs) 8) && every isNameByte bs ≡ true
+    so n = simp (le-leb 1 (length bs) (n .from), le-leb (length bs) 8 (n .to), n .bytes)

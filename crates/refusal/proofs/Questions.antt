@@ -1,0 +1,86 @@
+-- The first "no" ends the work: `firstNo` gives the refusal of a question exactly if that question has the answer no and those before it have yes,
+-- and is done exactly if every answer is yes.
+-- Assumes nothing.
+use mathlib.Core.Path.{_≡_, refl, sym, ap, _∙_}
+use mathlib.Core.Bool.{Bool, true, false, _&&_, false≢true}
+use mathlib.Core.Logic.{_↔_}
+use mathlib.Core.List.{List, [], _∷_, _++_}
+use Prim.Native.Nat.{ℕ}
+use native.Mathlib.Omega.{arith}
+use Rattle.refusal.specs.declared.Refusal.{Refusal}
+use Rattle.refusal.specs.declared.Outcome.{Outcome}
+use Rattle.refusal.specs.declared.Outcome.the-variants.{Done, Refused}
+use Rattle.refusal.specs.Questions.{Question, ask, firstNo}
+
+-- every answer is yes
+unfoldable pub allYes : List Question → Bool
+allYes [] = true
+allYes (q ∷ qs) = q .yes && allYes qs
+
+-- a question with the refusal r has the answer no, and those before it have yes
+abbrev pub FirstNo : List Question → Refusal → Type 0
+FirstNo qs r = (before : List Question) × (after : List Question) × (qs ≡ before ++ (ask r false ∷ after)) × (allYes before ≡ true)
+
+-- a yes is passed over, a no is answered
+pub yes-next : (q : Question) (qs : List Question) → q .yes ≡ true → firstNo (q ∷ qs) ≡ firstNo qs
+unfolding firstNo
+yes-next q qs e = simp e
+
+pub no-answers : (q : Question) (qs : List Question) → q .yes ≡ false → firstNo (q ∷ qs) ≡ Refused (q .refusal)
+unfolding firstNo
+no-answers q qs e = simp e
+
+done-none : Done ≡ firstNo []
+unfolding firstNo
+done-none = refl
+
+same-refusal : {r s : Refusal} → Refused r ≡ Refused s → r ≡ s
+same-refusal e = cc
+
+never-done : (r : Refusal) → Done ≡ Refused r → ⊥
+never-done r e = let z : _≡_ {A = ℕ} 0 1 = cc in omega arith
+
+pub no-first : (qs : List Question) (r : Refusal) → firstNo qs ≡ Refused r → FirstNo qs r
+unfolding allYes
+no-first [] r e = absurd (never-done r (done-none ∙ e))
+no-first (q ∷ qs) r e = go (q .yes) refl (no-first qs r)
+  where
+    go : (t : Bool) → q .yes ≡ t → (firstNo qs ≡ Refused r → FirstNo qs r) → FirstNo (q ∷ qs) r
+    go true p ih = let f = ih (sym (yes-next q qs p) ∙ e) in (q ∷ f .0, f .1, ap (λ (l : List Question). q ∷ l) (f .2), simp (p, f .3))
+    go false p ih =
+        let s : q .refusal ≡ r = same-refusal (sym (no-answers q qs p) ∙ e) in
+        ([], qs, (λ i. record { refusal = s i; yes = p i } ∷ qs), refl)
+
+pub first-no : (before : List Question) (r : Refusal) (after : List Question) → allYes before ≡ true → firstNo (before ++ (ask r false ∷ after)) ≡ Refused r
+unfolding allYes
+first-no [] r after h = no-answers (ask r false) after refl
+first-no (q ∷ qs) r after h = go (q .yes) refl (first-no qs r after)
+  where
+    go : (t : Bool) → q .yes ≡ t → (allYes qs ≡ true → firstNo (qs ++ (ask r false ∷ after)) ≡ Refused r) → firstNo (q ∷ (qs ++ (ask r false ∷ after))) ≡ Refused r
+    go true p ih = yes-next q (qs ++ (ask r false ∷ after)) p ∙ ih (simp p at h)
+    go false p ih = let z : false ≡ true = simp p at h in absurd (false≢true z)
+
+-- each refusal comes if its question has the answer no and those before it have yes, and in no other case
+pub refused-iff : (qs : List Question) (r : Refusal) → (firstNo qs ≡ Refused r) ↔ FirstNo qs r
+refused-iff qs r = (no-first qs r, λ f. ap firstNo (f .2) ∙ first-no (f .0) r (f .1) (f .3))
+
+all-done : (qs : List Question) → allYes qs ≡ true → firstNo qs ≡ Done
+unfolding allYes
+all-done [] h = sym done-none
+all-done (q ∷ qs) h = go (q .yes) refl (all-done qs)
+  where
+    go : (t : Bool) → q .yes ≡ t → (allYes qs ≡ true → firstNo qs ≡ Done) → firstNo (q ∷ qs) ≡ Done
+    go true p ih = yes-next q qs p ∙ ih (simp p at h)
+    go false p ih = let z : false ≡ true = simp p at h in absurd (false≢true z)
+
+done-all : (qs : List Question) → firstNo qs ≡ Done → allYes qs ≡ true
+unfolding allYes
+done-all [] h = refl
+done-all (q ∷ qs) h = go (q .yes) refl (done-all qs)
+  where
+    go : (t : Bool) → q .yes ≡ t → (firstNo qs ≡ Done → allYes qs ≡ true) → q .yes && allYes qs ≡ true
+    go true p ih = simp p (ih (sym (yes-next q qs p) ∙ h))
+    go false p ih = absurd (never-done (q .refusal) (sym h ∙ no-answers q qs p))
+
+pub done-iff : (qs : List Question) → (firstNo qs ≡ Done) ↔ (allYes qs ≡ true)
+done-iff qs = (done-all qs, all-done qs)
