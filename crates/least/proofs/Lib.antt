@@ -1,5 +1,6 @@
 pub mod Round
 pub mod Search
 pub mod Bisect
+pub mod Lists
 pub mod Greatest
 pub mod Along
