@@ -12,7 +12,7 @@ use borrow.Author.Tests.{le-leb, leb-true}
 use Rattle.least.specs.declared.Least.the-variants.{At, Nothing}
 use Rattle.least.specs.Search.{IsLeast}
 use Rattle.least.proofs.Search.{least-iff, any-iff}
-use Rattle.least.proofs.Bisect.{Rising, least-after, none-rising}
+use Rattle.least.proofs.Bisect.{least-after, none-rising}
 use Rattle.least.proofs.Along.{along-iff}
 use Rattle.supply.specs.Supply.{supplyOf}
 use Rattle.supply.proofs.Supply.{supply-mono-Q}
@@ -37,7 +37,8 @@ taskPasses-iff P Q blocking task higher = (to, from)
     from f = any-iff _ (task .deadline) .1 (f .0, f .1, f .2, le-leb _ _ (f .3))
 
 -- each task i of the part passes: the i − 1 tasks `lower` stand before it, nearest first, and the tasks `higher` behind it
-pub passes-paper : (P : ℕ) (ts : List Task) (m : ℕ) (σ : Setting) (Q : ℕ) → (passes P ts m σ Q ≡ true) ↔ ((lower : List Task) (task : Task) (higher : List Task) → reverse lower ++ (task ∷ higher) ≡ ts → Met P Q (blockingOf m σ lower) task higher)
+pub passes-paper : (P : ℕ) (ts : List Task) (m : ℕ) (σ : Setting) (Q : ℕ)
+    → (passes P ts m σ Q ≡ true) ↔ ((lower : List Task) (task : Task) (higher : List Task) → reverse lower ++ (task ∷ higher) ≡ ts → Met P Q (blockingOf m σ lower) task higher)
 unfolding passes
 passes-paper P ts m σ Q = (
   (λ q lower task higher e. taskPasses-iff P Q (blockingOf m σ lower) task higher .0 (along-iff _ ts .0 q lower task higher e)),
@@ -50,16 +51,14 @@ unfolding needOf
 met-more P Q R b c task higher o l u d (t, from, upto, met) = (t, from, upto, omega (arith, supply-mono-Q P Q R t o l u))
 
 -- the same of a part: ceilings that are no higher block no more
-pub passes-more : (P : ℕ) (ts : List Task) (m : ℕ) (σ τ : Setting) (Q R : ℕ) → 1 ≤ Q → Q ≤ R → R ≤ P → ((l : ℕ) → 1 ≤ l → l ≤ m → τ l ≤ σ l) → passes P ts m σ Q ≡ true → passes P ts m τ R ≡ true
+pub passes-more : (P : ℕ) (ts : List Task) (m : ℕ) (σ τ : Setting) (Q R : ℕ) → 1 ≤ Q → Q ≤ R → R ≤ P
+    → ((l : ℕ) → 1 ≤ l → l ≤ m → τ l ≤ σ l) → passes P ts m σ Q ≡ true → passes P ts m τ R ≡ true
 passes-more P ts m σ τ Q R o l u low q =
     passes-paper P ts m τ R .1 (λ lower task higher e. met-more P Q R _ _ task higher o l u (blocking-mono m τ σ lower low) (passes-paper P ts m σ Q .0 q lower task higher e))
 
 module _ (P : ℕ) (ts : List Task) (m : ℕ) (σ : Setting) where
   pub passes-mono-Q : (Q R : ℕ) → 1 ≤ Q → Q ≤ R → R ≤ P → passes P ts m σ Q ≡ true → passes P ts m σ R ≡ true
   passes-mono-Q Q R o l u q = passes-more P ts m σ σ Q R o l u (λ k a b. le-refl (σ k)) q
-
-  pub passes-rising : Rising (passes P ts m σ) P
-  passes-rising Q R o l u q = passes-mono-Q Q R o l u q
 
   pub budget-iff : (Q : ℕ) → (leastBudget P ts m σ ≡ At Q) ↔ (IsLeast (passes P ts m σ) Q × (Q ≤ P))
   unfolding leastBudget
@@ -68,11 +67,11 @@ module _ (P : ℕ) (ts : List Task) (m : ℕ) (σ : Setting) where
   -- two values settle it
   pub budget-after : (Q : ℕ) → Q < P → passes P ts m σ Q ≡ false → passes P ts m σ (Q + 1) ≡ true → leastBudget P ts m σ ≡ At (Q + 1)
   unfolding leastBudget
-  budget-after Q l f t = least-after (passes P ts m σ) P Q passes-rising l f t
+  budget-after Q l f t = least-after (passes P ts m σ) P Q passes-mono-Q l f t
 
   pub budget-one : 1 ≤ P → passes P ts m σ 1 ≡ true → leastBudget P ts m σ ≡ At 1
   budget-one l t = budget-iff 1 .1 (record { positive = omega arith; passes = t; first = λ v p q. p }, l)
 
   pub budget-none : passes P ts m σ P ≡ false → leastBudget P ts m σ ≡ Nothing
   unfolding leastBudget
-  budget-none f = none-rising (passes P ts m σ) P passes-rising f
+  budget-none f = none-rising (passes P ts m σ) P passes-mono-Q f

@@ -14,7 +14,7 @@ use lib.ListN.{length}
 use borrow.Author.Tests.{le-leb, lt-leb}
 use Rattle.least.specs.Lists.{greatest, range}
 use Rattle.least.proofs.Lists.{range-iff}
-use Rattle.least.proofs.Greatest.{greatest-each, greatest-reached, greatest-mono, Reached}
+use Rattle.least.proofs.Greatest.{greatest-each, greatest-reached, greatest-mono}
 use Rattle.task_set.specs.declared.Task.{Task}
 use Rattle.task_set.specs.Tasks.{heldFor}
 use Rattle.task_set.specs.Blocking.{Setting, blockedBy, blockingOf}
@@ -43,17 +43,18 @@ pub record Reaches (m : ℕ) (σ : Setting) (i l : ℕ) : Type 0 where
 
 -- the time that one lower task blocks task i
 module _ (m : ℕ) (σ : Setting) (i : ℕ) (h : Task) where
-  abbrev BlockedFor : ℕ → Type 0
-  BlockedFor b = (b ≡ 0) ⊎ ((l : ℕ) × Reaches m σ i l × (b ≡ heldFor l h))
+  -- b is 0 or the time that h holds a lock which reaches i
+  abbrev pub HeldOr0 : ℕ → Type 0
+  HeldOr0 b = (b ≡ 0) ⊎ ((l : ℕ) × Reaches m σ i l × (b ≡ heldFor l h))
 
-  reached-by : (b l : ℕ) → List·Memᴰ l (range 1 m) → b ≡ reaching σ i h l → BlockedFor b
+  reached-by : (b l : ℕ) → List·Memᴰ l (range 1 m) → b ≡ reaching σ i h l → HeldOr0 b
   reached-by b l k e = go (range-iff 1 m l .0 k) (decLe i (σ l))
     where
-      go : (1 ≤ l) × (l ≤ m) → Dec (i ≤ σ l) → BlockedFor b
+      go : (1 ≤ l) × (l ≤ m) → Dec (i ≤ σ l) → HeldOr0 b
       go r (yes u) = inr (l, record { from = r .0; upto = r .1; ceiling = u }, e ∙ reaching-is σ i h l u)
       go r (no u) = inl (e ∙ reaching-not σ i h l (omega arith))
 
-  pub blocked-reached : (blockedBy m σ i h ≡ 0) ⊎ ((l : ℕ) × Reaches m σ i l × (blockedBy m σ i h ≡ heldFor l h))
+  pub blocked-reached : HeldOr0 (blockedBy m σ i h)
   unfolding blockedBy
   blocked-reached = ⊎-elim inl (λ r. reached-by (blockedBy m σ i h) (r .0) (r .1) (r .2)) (greatest-reached (reaching σ i h) (range 1 m))
 
@@ -75,12 +76,17 @@ module _ (m : ℕ) (σ : Setting) (lower : List Task) where
   abbrev pub Blocks : Task → ℕ → Type 0
   Blocks h l = List·Memᴰ h lower × Reaches m σ (suc (length lower)) l
 
-  blocking-reached : (blockingOf m σ lower ≡ 0) ⊎ ((h : Task) × (l : ℕ) × Blocks h l × (blockingOf m σ lower ≡ heldFor l h))
+  -- b is 0 or the c of such a task on such a lock
+  abbrev pub BlocksOr0 : ℕ → Type 0
+  BlocksOr0 b = (b ≡ 0) ⊎ ((h : Task) × (l : ℕ) × Blocks h l × (b ≡ heldFor l h))
+
+  reached-of : (b : ℕ) (h : Task) → List·Memᴰ h lower → b ≡ blockedBy m σ (suc (length lower)) h → BlocksOr0 b
+  reached-of b h k e = ⊎-elim (λ z. inl (e ∙ z)) (λ r. inr (h, r .0, (k, r .1), e ∙ r .2)) (blocked-reached m σ (suc (length lower)) h)
+
+  blocking-reached : BlocksOr0 (blockingOf m σ lower)
   unfolding blockingOf
-  blocking-reached = ⊎-elim inl by (greatest-reached (blockedBy m σ (suc (length lower))) lower)
-    where
-      by : Reached (blockedBy m σ (suc (length lower))) lower (blockingOf m σ lower) → (blockingOf m σ lower ≡ 0) ⊎ ((h : Task) × (l : ℕ) × Blocks h l × (blockingOf m σ lower ≡ heldFor l h))
-      by (h, k, e) = ⊎-elim (λ z. inl (e ∙ z)) (λ r. inr (h, r .0, (k, r .1), e ∙ r .2)) (blocked-reached m σ (suc (length lower)) h)
+  blocking-reached =
+      ⊎-elim inl (λ r. reached-of (blockingOf m σ lower) (r .0) (r .1) (r .2)) (greatest-reached (blockedBy m σ (suc (length lower))) lower)
 
   blocking-each : (h : Task) (l : ℕ) → Blocks h l → heldFor l h ≤ blockingOf m σ lower
   unfolding blockingOf
@@ -88,7 +94,7 @@ module _ (m : ℕ) (σ : Setting) (lower : List Task) where
       le-trans (blocked-each m σ (suc (length lower)) h l r) (greatest-each (blockedBy m σ (suc (length lower))) lower h k)
 
   -- the greatest c of a lower task on a lock with a ceiling of at least the task's number, else 0
-  pub blocking-paper : ((h : Task) (l : ℕ) → Blocks h l → heldFor l h ≤ blockingOf m σ lower) × ((blockingOf m σ lower ≡ 0) ⊎ ((h : Task) × (l : ℕ) × Blocks h l × (blockingOf m σ lower ≡ heldFor l h)))
+  pub blocking-paper : ((h : Task) (l : ℕ) → Blocks h l → heldFor l h ≤ blockingOf m σ lower) × BlocksOr0 (blockingOf m σ lower)
   blocking-paper = (blocking-each, blocking-reached)
 
   -- no lock reaches the task above: it is not blocked
