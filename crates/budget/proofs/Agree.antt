@@ -6,7 +6,7 @@ use mathlib.Core.List.{List}
 use Rattle.least.specs.Search.{leastUpTo}
 use Rattle.least.specs.Lists.{everyAlong}
 use Rattle.task_set.specs.declared.Task.{Task}
-use Rattle.task_set.specs.Blocking.{Setting, blockingOf}
+use Rattle.task_set.specs.Blocking.{Setting}
 use Rattle.task_set.proofs.Agree.{Agree, blockingOf-agree}
 use Rattle.budget.specs.Budget.{taskPasses, passes, leastBudget}
 
