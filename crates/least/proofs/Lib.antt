@@ -2,3 +2,5 @@ pub mod Round
 pub mod Search
 pub mod Bisect
 pub mod Lists
+pub mod Greatest
+pub mod Along
