@@ -1,5 +1,5 @@
--- Laws of the lists of specs/Lists.antt: who is a member of a list that is made from others, what a test over a list says of its
--- members, and when two lists or tests are the same.
+-- Laws of lists: who is a member of a list that is made from others, what a test over a list says of its members, and when two lists or tests
+-- are the same.
 -- Assumes nothing.
 use Prim.Native.Nat.{ℕ, zero, suc, _+_, _-_, _≤_, _<_, min}
 use native.Mathlib.Nat.{eq-or-lt-of-le}
@@ -175,7 +175,7 @@ module _ {A : Type 0} where
   nth-get d zero (x ∷ xs) = refl
   nth-get d (suc k) (x ∷ xs) = nth-get d k xs
 
-  -- the first element that passes
+  -- the k-th element passes, and none before it does
   pub record FirstAt (test : A → Bool) (xs : List A) (k : ℕ) : Type 0 where
     pub some : 1 ≤ k
     pub most : k ≤ length xs
@@ -262,11 +262,11 @@ smallest-le (y ∷ []) m = omega (arith, List·Memᴰ·eq-of-singleton m)
 smallest-le (y ∷ z ∷ zs) (List·Memᴰ·head q) = omega arith
 smallest-le (y ∷ z ∷ zs) (List·Memᴰ·tail m) = omega (arith, smallest-le (z ∷ zs) m)
 
-pub smallest-member : (x : ℕ) (xs : List ℕ) → List·Memᴰ (smallest (x ∷ xs)) (x ∷ xs)
+pub smallest-member : {x : ℕ} (xs : List ℕ) → List·Memᴰ x xs → List·Memᴰ (smallest xs) xs
 unfolding smallest
-smallest-member x [] = List·Memᴰ·head refl
-smallest-member x (y ∷ ys) = go (smallest-member y ys) (decLe x (smallest (y ∷ ys)))
+smallest-member (y ∷ []) m = List·Memᴰ·head refl
+smallest-member (y ∷ z ∷ zs) m = go (smallest-member (z ∷ zs) (List·Memᴰ·head refl)) (decLe y (smallest (z ∷ zs)))
   where
-    go : List·Memᴰ (smallest (y ∷ ys)) (y ∷ ys) → Dec (x ≤ smallest (y ∷ ys)) → List·Memᴰ (min x (smallest (y ∷ ys))) (x ∷ y ∷ ys)
-    go m (yes l) = let e : min x (smallest (y ∷ ys)) ≡ x = omega arith in List·Memᴰ·head e
-    go m (no l) = List·Memᴰ·tail (Memᴰ·cast (omega arith) m)
+    go : List·Memᴰ (smallest (z ∷ zs)) (z ∷ zs) → Dec (y ≤ smallest (z ∷ zs)) → List·Memᴰ (min y (smallest (z ∷ zs))) (y ∷ z ∷ zs)
+    go q (yes l) = let e : min y (smallest (z ∷ zs)) ≡ y = omega arith in List·Memᴰ·head e
+    go q (no l) = List·Memᴰ·tail (Memᴰ·cast (omega arith) q)
