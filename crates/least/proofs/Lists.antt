@@ -1,5 +1,5 @@
--- Laws of the lists of specs/Lists.antt: who is a member of a list that is made from others, what a test over a list says of its
--- members, and when two lists or tests are the same.
+-- Laws of lists: who is a member of a list that is made from others, what a test over a list says of its members, and when two lists or tests
+-- are the same.
 -- Assumes nothing.
 use Prim.Native.Nat.{ℕ, zero, suc, _+_, _-_, _≤_, _<_, min}
 use native.Mathlib.Nat.{eq-or-lt-of-le}
@@ -8,19 +8,15 @@ use native.Mathlib.Decide.{decLe}
 use mathlib.Core.Path.{_≡_, refl, sym, ap, ap₂, _∙_, subst}
 use mathlib.Core.Bool.{Bool, true, false, false≢true}
 use mathlib.Core.Logic.{_⊎_, inl, inr, ⊎-elim, _↔_}
-use mathlib.Core.List.{List, [], _∷_, _++_, map, List·Memᴰ, List·Memᴰ·head, List·Memᴰ·tail, List·Memᴰ·not-nil, List·Memᴰ·cases-cons, List·Memᴰ·append-cases, List·Memᴰ·eq-of-singleton, Memᴰ·cast, Memᴰ·append-left, Memᴰ·append-right, Memᴰ·map, Memᴰ·of-map}
+use mathlib.Core.List.{List, [], _∷_, map, List·Memᴰ, List·Memᴰ·head, List·Memᴰ·tail, List·Memᴰ·not-nil, List·Memᴰ·cases-cons, List·Memᴰ·append-cases, List·Memᴰ·eq-of-singleton, Memᴰ·cast, Memᴰ·append-left, Memᴰ·append-right, Memᴰ·map, Memᴰ·of-map}
 use lib.ListN.{length, getD}
 use Rattle.least.specs.Lists.{smallest, countFrom, range, nthOr, every, some, those, joined, firstFrom, firstOf}
 
 -- the n numbers from a on
 pub count-from : (n a l : ℕ) → List·Memᴰ l (countFrom a n) → (a ≤ l) × (l < a + n)
 unfolding countFrom
-count-from zero a l m = absurd (List·Memᴰ·not-nil m)
-count-from (suc n) a l m = go (λ q. count-from n (suc a) l q) (List·Memᴰ·cases-cons m)
-  where
-    go : (List·Memᴰ l (countFrom (suc a) n) → (suc a ≤ l) × (l < suc a + n)) → (l ≡ a) ⊎ List·Memᴰ l (countFrom (suc a) n) → (a ≤ l) × (l < a + suc n)
-    go ih (inl e) = (omega arith, omega arith)
-    go ih (inr q) = let h = ih q in (omega arith, omega arith)
+count-from (suc n) a l (List·Memᴰ·head e) = (omega arith, omega arith)
+count-from (suc n) a l (List·Memᴰ·tail m) = let h = count-from n (suc a) l m in (omega arith, omega arith)
 
 pub count-to : (n a l : ℕ) → a ≤ l → l < a + n → List·Memᴰ l (countFrom a n)
 unfolding countFrom
@@ -49,14 +45,16 @@ module _ {A : Type 0} where
   unfolding every
   every-fail test x xs h = rw (h, every) refl
 
-  pub every-member : (test : A → Bool) {x : A} (xs : List A) → every test xs ≡ true → List·Memᴰ x xs → test x ≡ true
-  every-member test {x} [] e m = absurd (List·Memᴰ·not-nil m)
-  every-member test {x} (y ∷ ys) e m = go (λ h q. every-member test ys h q) (test y) refl (List·Memᴰ·cases-cons m)
+  pub every-cons : (test : A → Bool) (x : A) (xs : List A) → every test (x ∷ xs) ≡ true → (test x ≡ true) × (every test xs ≡ true)
+  every-cons test x xs e = go (test x) refl
     where
-      go : (every test ys ≡ true → List·Memᴰ x ys → test x ≡ true) → (b : Bool) → test y ≡ b → (x ≡ y) ⊎ List·Memᴰ x ys → test x ≡ true
-      go ih true t (inl q) = ap test q ∙ t
-      go ih true t (inr q) = ih (sym (every-pass test y ys t) ∙ e) q
-      go ih false t q = absurd (false≢true (sym (every-fail test y ys t) ∙ e))
+      go : (b : Bool) → test x ≡ b → (test x ≡ true) × (every test xs ≡ true)
+      go true t = (t, sym (every-pass test x xs t) ∙ e)
+      go false t = absurd (false≢true (sym (every-fail test x xs t) ∙ e))
+
+  pub every-member : (test : A → Bool) {x : A} (xs : List A) → every test xs ≡ true → List·Memᴰ x xs → test x ≡ true
+  every-member test (y ∷ ys) e (List·Memᴰ·head q) = ap test q ∙ every-cons test y ys e .0
+  every-member test (y ∷ ys) e (List·Memᴰ·tail m) = every-member test ys (every-cons test y ys e .1) m
 
   pub every-all : (test : A → Bool) (xs : List A) → ((x : A) → List·Memᴰ x xs → test x ≡ true) → every test xs ≡ true
   unfolding every
@@ -101,7 +99,8 @@ module _ {A : Type 0} where
   NonePasses test xs = (x : A) → List·Memᴰ x xs → test x ≡ false
 
   none-more : (test : A → Bool) (y : A) (ys : List A) → test y ≡ false → NonePasses test ys → NonePasses test (y ∷ ys)
-  none-more test y ys t h x m = ⊎-elim (λ (q : x ≡ y). ap test q ∙ t) (λ (q : List·Memᴰ x ys). h x q) (List·Memᴰ·cases-cons m)
+  none-more test y ys t h x (List·Memᴰ·head q) = ap test q ∙ t
+  none-more test y ys t h x (List·Memᴰ·tail m) = h x m
 
   abbrev SomeOrNone : (A → Bool) → List A → Type 0
   SomeOrNone test xs = ((some test xs ≡ true) × SomePasses test xs) ⊎ ((some test xs ≡ false) × NonePasses test xs)
@@ -153,15 +152,12 @@ module _ {A : Type 0} where
       go ih false t = later (ih (rw (those-fail test y ys t) at m))
 
   pub those-passing : (test : A → Bool) {x : A} (xs : List A) → List·Memᴰ x xs → test x ≡ true → List·Memᴰ x (those test xs)
-  unfolding those
-  those-passing test {x} [] m p = absurd (List·Memᴰ·not-nil m)
-  those-passing test {x} (y ∷ ys) m p = go (λ q. those-passing test ys q p) (test y) refl (List·Memᴰ·cases-cons m)
+  those-passing test (y ∷ ys) (List·Memᴰ·head q) p = rw (those-pass test y ys (ap test (sym q) ∙ p)) (List·Memᴰ·head q)
+  those-passing test {x} (y ∷ ys) (List·Memᴰ·tail m) p = go (those-passing test ys m p) (test y) refl
     where
-      go : (List·Memᴰ x ys → List·Memᴰ x (those test ys)) → (b : Bool) → test y ≡ b → (x ≡ y) ⊎ List·Memᴰ x ys → List·Memᴰ x (those test (y ∷ ys))
-      go ih true t (inl q) = rw (those-pass test y ys t) (List·Memᴰ·head q)
-      go ih true t (inr q) = rw (those-pass test y ys t) (List·Memᴰ·tail (ih q))
-      go ih false t (inl q) = absurd (false≢true (sym t ∙ ap test (sym q) ∙ p))
-      go ih false t (inr q) = rw (those-fail test y ys t) (ih q)
+      go : List·Memᴰ x (those test ys) → (b : Bool) → test y ≡ b → List·Memᴰ x (those test (y ∷ ys))
+      go q true t = rw (those-pass test y ys t) (List·Memᴰ·tail q)
+      go q false t = rw (those-fail test y ys t) q
 
   pub those-iff : (test : A → Bool) (x : A) (xs : List A) → List·Memᴰ x (those test xs) ↔ (List·Memᴰ x xs × (test x ≡ true))
   those-iff test x xs = (those-member test xs, λ h. those-passing test xs (h .0) (h .1))
@@ -178,12 +174,8 @@ module _ {A : Type 0} where
 
   pub joined-of : {x : A} {xs : List A} (xss : List (List A)) → List·Memᴰ xs xss → List·Memᴰ x xs → List·Memᴰ x (joined xss)
   unfolding joined
-  joined-of {x} {xs} [] k m = absurd (List·Memᴰ·not-nil k)
-  joined-of {x} {xs} (ys ∷ yss) k m = go (λ q. joined-of yss q m) (List·Memᴰ·cases-cons k)
-    where
-      go : (List·Memᴰ xs yss → List·Memᴰ x (joined yss)) → (xs ≡ ys) ⊎ List·Memᴰ xs yss → List·Memᴰ x (ys ++ joined yss)
-      go ih (inl q) = Memᴰ·append-left (joined yss) (subst (List·Memᴰ x) q m)
-      go ih (inr q) = Memᴰ·append-right ys (ih q)
+  joined-of {x} (ys ∷ yss) (List·Memᴰ·head q) m = Memᴰ·append-left (joined yss) (subst (List·Memᴰ x) q m)
+  joined-of (ys ∷ yss) (List·Memᴰ·tail k) m = Memᴰ·append-right ys (joined-of yss k m)
 
   pub joined-iff : (x : A) (xss : List (List A)) → List·Memᴰ x (joined xss) ↔ ((xs : List A) × List·Memᴰ xs xss × List·Memᴰ x xs)
   joined-iff x xss = (joined-member xss, λ h. joined-of xss (h .1) (h .2))
@@ -195,7 +187,7 @@ module _ {A : Type 0} where
   nth-get d zero (x ∷ xs) = refl
   nth-get d (suc k) (x ∷ xs) = nth-get d k xs
 
-  -- the first element that passes
+  -- the k-th element passes, and none before it does
   pub record FirstAt (test : A → Bool) (xs : List A) (k : ℕ) : Type 0 where
     pub some : 1 ≤ k
     pub most : k ≤ length xs
@@ -278,19 +270,15 @@ module _ {A B : Type 0} where
 -- the smallest number of a list is no greater than any of them, and is one of them
 pub smallest-le : {x : ℕ} (xs : List ℕ) → List·Memᴰ x xs → smallest xs ≤ x
 unfolding smallest
-smallest-le {x} [] m = absurd (List·Memᴰ·not-nil m)
-smallest-le {x} (y ∷ []) m = omega (arith, List·Memᴰ·eq-of-singleton m)
-smallest-le {x} (y ∷ z ∷ zs) m = go (λ q. smallest-le (z ∷ zs) q) (List·Memᴰ·cases-cons m)
-  where
-    go : (List·Memᴰ x (z ∷ zs) → smallest (z ∷ zs) ≤ x) → (x ≡ y) ⊎ List·Memᴰ x (z ∷ zs) → min y (smallest (z ∷ zs)) ≤ x
-    go ih (inl q) = omega arith
-    go ih (inr q) = omega (arith, ih q)
+smallest-le (y ∷ []) m = omega (arith, List·Memᴰ·eq-of-singleton m)
+smallest-le (y ∷ z ∷ zs) (List·Memᴰ·head q) = omega arith
+smallest-le (y ∷ z ∷ zs) (List·Memᴰ·tail m) = omega (arith, smallest-le (z ∷ zs) m)
 
-pub smallest-member : (x : ℕ) (xs : List ℕ) → List·Memᴰ (smallest (x ∷ xs)) (x ∷ xs)
+pub smallest-member : {x : ℕ} (xs : List ℕ) → List·Memᴰ x xs → List·Memᴰ (smallest xs) xs
 unfolding smallest
-smallest-member x [] = List·Memᴰ·head refl
-smallest-member x (y ∷ ys) = go (smallest-member y ys) (decLe x (smallest (y ∷ ys)))
+smallest-member (y ∷ []) m = List·Memᴰ·head refl
+smallest-member (y ∷ z ∷ zs) m = go (smallest-member (z ∷ zs) (List·Memᴰ·head refl)) (decLe y (smallest (z ∷ zs)))
   where
-    go : List·Memᴰ (smallest (y ∷ ys)) (y ∷ ys) → Dec (x ≤ smallest (y ∷ ys)) → List·Memᴰ (min x (smallest (y ∷ ys))) (x ∷ y ∷ ys)
-    go m (yes l) = let e : min x (smallest (y ∷ ys)) ≡ x = omega arith in List·Memᴰ·head e
-    go m (no l) = List·Memᴰ·tail (Memᴰ·cast (omega arith) m)
+    go : List·Memᴰ (smallest (z ∷ zs)) (z ∷ zs) → Dec (y ≤ smallest (z ∷ zs)) → List·Memᴰ (min y (smallest (z ∷ zs))) (y ∷ z ∷ zs)
+    go q (yes l) = let e : min y (smallest (z ∷ zs)) ≡ y = omega arith in List·Memᴰ·head e
+    go q (no l) = List·Memᴰ·tail (Memᴰ·cast (omega arith) q)

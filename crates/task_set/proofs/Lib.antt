@@ -1,2 +1,3 @@
-pub mod Demand
+pub mod Agree
 pub mod Blocking
+pub mod Demand
