@@ -1,2 +1,5 @@
+pub mod Round
+pub mod Search
+pub mod Bisect
 pub mod Each
 pub mod Fraction
