@@ -2,7 +2,7 @@
 --   Ok a == a is not 0/0;  Finite a == the denominator is positive
 --   Reached n g x == x is g at some t, 1 ≤ t ≤ n, and g is greater at every smaller time
 -- Assumes nothing.
-use mathlib.Core.Path.{_≡_, refl, sym, ap}
+use mathlib.Core.Path.{_≡_, refl, sym, ap, _∙_}
 use mathlib.Core.Logic.{_⊎_, inl, inr, ⊎-elim}
 use mathlib.Core.Bool.{Bool, true, false, cond}
 use mathlib.Core.List.{List, [], _∷_, List·Memᴰ}
@@ -12,6 +12,7 @@ use native.Mathlib.Nat.{le-refl, mul-le-mul-right, le-of-mul-le-mul-right, le-of
 use native.Mathlib.Omega.{arith}
 use borrow.Author.Tests.{ltb-true, ltb-false, leb-true, leb-false, lt-ltb, le-ltb}
 use lib.Dec.{leb, ltb}
+use lib.ListN.{length, getD}
 use Rattle.least.specs.declared.Frac.{Frac}
 use Rattle.least.specs.Each.{Each}
 use Rattle.least.specs.Each.Each.{none, more}
@@ -220,6 +221,31 @@ unfolding greatestOf
 greatestOf-member x [] = greater-ind (λ y. List·Memᴰ y (x ∷ [])) x (frac 0 1) (λ h. absurd (omega arith)) (λ _. List·Memᴰ·head refl)
 greatestOf-member x (y ∷ ys) =
     greater-ind (λ z. List·Memᴰ z (x ∷ y ∷ ys)) x (greatestOf (y ∷ ys)) (λ _. List·Memᴰ·tail (greatestOf-member y ys)) (λ _. List·Memᴰ·head refl)
+
+-- j is the place, from 0, of the first element that reaches the greatest
+pub record FirstGreatest (xs : List Frac) (j : ℕ) : Type 0 where
+  pub within : j < length xs
+  pub value : getD xs j (frac 0 1) ≡ greatestOf xs
+  pub before : (k : ℕ) → k < j → getD xs k (frac 0 1) ⊏ greatestOf xs
+
+greatestOf-later : (x : Frac) (xs : List Frac) (j : ℕ) → x ⊏ greatestOf xs → FirstGreatest xs j → FirstGreatest (x ∷ xs) (suc j)
+unfolding greatestOf
+greatestOf-later x xs j h f = record { within = omega arith; value = f .value ∙ sym (greater-lt h); before = before }
+  where
+    before : (k : ℕ) → k < suc j → getD (x ∷ xs) k (frac 0 1) ⊏ greater x (greatestOf xs)
+    before zero l = rw (greater-lt h) h
+    before (suc k) l = rw (greater-lt h) (f .before k (omega arith))
+
+greatestOf-here : (x : Frac) (xs : List Frac) → greatestOf xs ⊑ x → FirstGreatest (x ∷ xs) 0
+unfolding greatestOf
+greatestOf-here x xs h = record { within = omega arith; value = sym (greater-ge h); before = λ k l. absurd (omega arith) }
+
+pub greatestOf-first : (x : Frac) (xs : List Frac) → (j : ℕ) × FirstGreatest (x ∷ xs) j
+unfolding greatestOf
+greatestOf-first x [] = (0, greatestOf-here x [] (record { cross = omega arith }))
+greatestOf-first x (y ∷ ys) =
+    let r = greatestOf-first y ys in
+    ⊎-elim (λ h. (suc (r .0), greatestOf-later x (y ∷ ys) (r .0) h (r .1))) (λ h. (0, greatestOf-here x (y ∷ ys) h)) (⊏-or-⊑ x (greatestOf (y ∷ ys)))
 
 -- the greatest of no greater fractions is no greater
 pub greatestOf-mono : {xs ys : List Frac} → AllOk xs → AllOk ys → Each (λ x y. x ⊑ y) xs ys → greatestOf xs ⊑ greatestOf ys
