@@ -10,13 +10,13 @@ use mathlib.Core.List.List·Memᴰ.{List·Memᴰ·head, List·Memᴰ·tail}
 use Prim.Native.Nat.{ℕ, zero, suc, _*_, _+_, _≤_, _<_, zero-le}
 use native.Mathlib.Nat.{le-refl, mul-le-mul-right, le-of-mul-le-mul-right, le-of-mul-le-mul-left, mul-right-comm, mul-zero, one-mul, eq-or-lt-of-le}
 use native.Mathlib.Omega.{arith}
-use borrow.Author.Tests.{ltb-true, ltb-false, leb-true, leb-false, lt-ltb, le-ltb}
+use borrow.Author.Tests.{ltb-true, ltb-false, leb-true, leb-false, lt-ltb, le-ltb, le-leb, lt-leb}
 use lib.Dec.{leb, ltb}
 use lib.ListN.{length, getD}
 use Rattle.least.specs.declared.Frac.{Frac}
 use Rattle.least.specs.Each.{Each}
 use Rattle.least.specs.Each.Each.{none, more}
-use Rattle.least.specs.Fraction.{frac, noBound, _⊑_, _⊏_, less, lesser, greater, leastOver, greatestOf}
+use Rattle.least.specs.Fraction.{frac, noBound, _⊑_, _⊏_, atMost, lesser, greater, leastOver, greatestOf}
 
 pub record Ok (a : Frac) : Type 0 where
   pub some : 0 < a .num + a .den
@@ -88,6 +88,13 @@ pub ⊏-⊑-trans : {a b c : Frac} → Ok c → a ⊏ b → b ⊑ c → a ⊏ c
 
 pub ⊑-⊏-trans : {a b c : Frac} → Ok a → a ⊑ b → b ⊏ c → a ⊏ c
 ⊑-⊏-trans {a} {b} {c} ok h k = ⊎-elim (λ l. l) (λ g. absurd (not-⊏ k (⊑-trans ok g h))) (⊏-or-⊑ a c)
+
+-- the test a ⊑ b
+pub atMost-true : (a b : Frac) → a ⊑ b → atMost a b ≡ true
+atMost-true a b h = le-leb _ _ (h .cross)
+
+pub atMost-false : (a b : Frac) → b ⊏ a → atMost a b ≡ false
+atMost-false a b h = lt-leb _ _ (h .cross)
 
 -- the lesser and the greater of two
 pub lesser-left : (a b : Frac) → lesser a b ⊑ a
