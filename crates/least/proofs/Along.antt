@@ -1,0 +1,60 @@
+-- Laws of `everyAlong`: it passes just if the test passes at each way to part the list in what stands before, an element, and what stands behind.
+-- Assumes nothing.
+use mathlib.Core.Path.{_≡_, refl, sym, ap, _∙_}
+use mathlib.Core.Bool.{Bool, true, false, false≢true}
+use mathlib.Core.List.{List, [], _∷_, _++_, reverse, reverseAux, reverse-reverse}
+use mathlib.Core.Logic.{_↔_}
+use Rattle.least.specs.Lists.{everyBehind, everyAlong}
+
+module _ {A : Type 0} where
+  -- the test passes at each place of xs, where `before` stands before xs, nearest first
+  abbrev pub PassesBehind : (List A → A → List A → Bool) → List A → List A → Type 0
+  PassesBehind test before xs = (front : List A) (x : A) (higher : List A) → front ++ (x ∷ higher) ≡ xs → test (reverseAux front before) x higher ≡ true
+
+  -- the same of a whole list: `lower` stands before x, nearest first
+  abbrev pub PassesAlong : (List A → A → List A → Bool) → List A → Type 0
+  PassesAlong test xs = (lower : List A) (x : A) (higher : List A) → reverse lower ++ (x ∷ higher) ≡ xs → test lower x higher ≡ true
+
+module _ {A : Type 0} (test : List A → A → List A → Bool) where
+  behind-passed : (before : List A) (x : A) (xs : List A) → test before x xs ≡ true → everyBehind test before (x ∷ xs) ≡ everyBehind test (x ∷ before) xs
+  unfolding everyBehind
+  behind-passed before x xs t = rw (t, everyBehind) refl
+
+  behind-missed : (before : List A) (x : A) (xs : List A) → test before x xs ≡ false → everyBehind test before (x ∷ xs) ≡ false
+  unfolding everyBehind
+  behind-missed before x xs f = rw (f, everyBehind) refl
+
+  behind-true : (xs before : List A) → PassesBehind test before xs → everyBehind test before xs ≡ true
+  unfolding everyBehind
+  behind-true [] before h = refl
+  behind-true (x ∷ xs) before h =
+      behind-passed before x xs (h [] x xs refl)
+      ∙ behind-true xs (x ∷ before) (λ front y higher e. h (x ∷ front) y higher (ap (λ (l : List A). x ∷ l) e))
+
+  -- the first place, and the others
+  behind-first : (before : List A) (x : A) (xs : List A) → everyBehind test before (x ∷ xs) ≡ true → test before x xs ≡ true
+  behind-first before x xs q = go (test before x xs) refl
+    where
+      go : (b : Bool) → test before x xs ≡ b → test before x xs ≡ true
+      go true t = t
+      go false f = absurd (false≢true (sym (behind-missed before x xs f) ∙ q))
+
+  behind-each : (xs before : List A) → everyBehind test before xs ≡ true → PassesBehind test before xs
+  behind-each xs before q [] y higher e = behind-first before y higher (rw (← e) at q)
+  behind-each xs before q (x ∷ front) y higher e =
+      let q′ : everyBehind test before (x ∷ (front ++ (y ∷ higher))) ≡ true = rw (← e) at q in
+      behind-each (front ++ (y ∷ higher)) (x ∷ before) (sym (behind-passed before x _ (behind-first before x _ q′)) ∙ q′) front y higher refl
+
+  pub along-iff : (xs : List A) → (everyAlong test xs ≡ true) ↔ PassesAlong test xs
+  along-iff xs = (to, from)
+    where
+      to : everyAlong test xs ≡ true → PassesAlong test xs
+      to q lower x higher e = ap (λ (l : List A). test l x higher) (sym (reverse-reverse lower)) ∙ behind-each xs [] q (reverse lower) x higher e
+
+      from : PassesAlong test xs → everyAlong test xs ≡ true
+      from h = behind-true xs [] (λ front x higher e. h (reverse front) x higher (ap (λ (l : List A). l ++ (x ∷ higher)) (reverse-reverse front) ∙ e))
+
+-- a test that passes wherever another does
+pub along-more : {A : Type 0} (test other : List A → A → List A → Bool) (xs : List A) → ((lower : List A) (x : A) (higher : List A) → test lower x higher ≡ true → other lower x higher ≡ true) → everyAlong test xs ≡ true → everyAlong other xs ≡ true
+along-more test other xs more q =
+    along-iff other xs .1 (λ lower x higher e. more lower x higher (along-iff test xs .0 q lower x higher e))
