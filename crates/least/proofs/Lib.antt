@@ -4,3 +4,5 @@ pub mod Bisect
 pub mod Lists
 pub mod Greatest
 pub mod Along
+pub mod Each
+pub mod Fraction

@@ -1,0 +1,263 @@
+-- Laws of fractions. 1/0 is the greatest; the order is transitive where the middle one is not 0/0.
+--   Ok a == a is not 0/0;  Finite a == the denominator is positive
+--   Reached n g x == x is g at some t, 1 ≤ t ≤ n, and g is greater at every smaller time
+-- Assumes nothing.
+use mathlib.Core.Path.{_≡_, refl, sym, ap, _∙_}
+use mathlib.Core.Logic.{_⊎_, inl, inr, ⊎-elim}
+use mathlib.Core.Bool.{Bool, true, false, cond}
+use mathlib.Core.List.{List, [], _∷_, List·Memᴰ}
+use mathlib.Core.List.List·Memᴰ.{List·Memᴰ·head, List·Memᴰ·tail}
+use Prim.Native.Nat.{ℕ, zero, suc, _*_, _+_, _≤_, _<_, zero-le}
+use native.Mathlib.Nat.{le-refl, mul-le-mul-right, le-of-mul-le-mul-right, le-of-mul-le-mul-left, mul-right-comm, mul-zero, one-mul, eq-or-lt-of-le}
+use native.Mathlib.Omega.{arith}
+use borrow.Author.Tests.{ltb-true, ltb-false, leb-true, leb-false, lt-ltb, le-ltb, le-leb, lt-leb}
+use lib.Dec.{leb, ltb}
+use lib.ListN.{length, getD}
+use Rattle.least.specs.declared.Frac.{Frac}
+use Rattle.least.specs.Each.{Each}
+use Rattle.least.specs.Each.Each.{none, more}
+use Rattle.least.specs.Fraction.{frac, noBound, _⊑_, _⊏_, atMost, lesser, greater, leastOver, greatestOf}
+
+pub record Ok (a : Frac) : Type 0 where
+  pub some : 0 < a .num + a .den
+
+pub record Finite (a : Frac) : Type 0 where
+  pub pos : 0 < a .den
+
+-- a choice by a test: what holds of each answer under what the test says holds of the choice
+pub cond-lt : {A : Type 0} (P : A → Type 0) (m n : ℕ) {x y : A} → (m < n → P x) → (n ≤ m → P y) → P (cond (ltb m n) x y)
+cond-lt {A} P m n {x} {y} f g = go (ltb m n) refl
+  where
+    go : (t : Bool) → ltb m n ≡ t → P (cond t x y)
+    go true e = f (ltb-true m n e)
+    go false e = g (ltb-false m n e)
+
+pub cond-le : {A : Type 0} (P : A → Type 0) (m n : ℕ) {x y : A} → (m ≤ n → P x) → (n < m → P y) → P (cond (leb m n) x y)
+cond-le {A} P m n {x} {y} f g = go (leb m n) refl
+  where
+    go : (t : Bool) → leb m n ≡ t → P (cond t x y)
+    go true e = f (leb-true m n e)
+    go false e = g (leb-false m n e)
+
+pub lesser-ind : (P : Frac → Type 0) (a b : Frac) → (b ⊏ a → P b) → (a ⊑ b → P a) → P (lesser a b)
+unfolding lesser
+lesser-ind P a b f g = cond-lt P _ _ (λ h. f (record { cross = h })) (λ h. g (record { cross = h }))
+
+pub greater-ind : (P : Frac → Type 0) (a b : Frac) → (a ⊏ b → P b) → (b ⊑ a → P a) → P (greater a b)
+unfolding greater
+greater-ind P a b f g = cond-lt P _ _ (λ h. f (record { cross = h })) (λ h. g (record { cross = h }))
+
+-- the order
+pub ⊑-refl : (a : Frac) → a ⊑ a
+⊑-refl a = record { cross = le-refl _ }
+
+pub ⊏-⊑ : {a b : Frac} → a ⊏ b → a ⊑ b
+⊏-⊑ h = omega arith
+
+pub not-⊏ : {a b : Frac} → a ⊏ b → b ⊑ a → ⊥
+not-⊏ h k = omega arith
+
+-- a/b ≤ c/d ≤ e/f
+cross : (a b c d e f : ℕ) → 0 < c + d → a * d ≤ c * b → c * f ≤ e * d → a * f ≤ e * b
+cross a b c zero e f ok h k =
+    let z : f ≤ 0 = le-of-mul-le-mul-left {k = c} (omega arith) (omega arith) in
+    let z′ : f ≡ 0 = omega arith in
+    simp (z′, mul-zero) zero-le
+cross a b c (suc d) e f ok h k =
+    le-of-mul-le-mul-right {k = suc d}
+    (omega (arith, mul-le-mul-right f h, mul-le-mul-right b k, mul-right-comm a f (suc d), mul-right-comm c b f, mul-right-comm e (suc d) b))
+    (omega arith)
+
+pub ⊑-trans : {a b c : Frac} → Ok b → a ⊑ b → b ⊑ c → a ⊑ c
+⊑-trans ok h k = record { cross = cross _ _ _ _ _ _ (ok .some) (h .cross) (k .cross) }
+
+pub ⊑-noBound : (a : Frac) → a ⊑ noBound
+⊑-noBound a = record { cross = simp (mul-zero, one-mul) zero-le }
+
+pub ⊏-or-⊑ : (a b : Frac) → (a ⊏ b) ⊎ (b ⊑ a)
+⊏-or-⊑ a b = cond-lt {A = Unit {0}} (λ _. (a ⊏ b) ⊎ (b ⊑ a)) (a .num * b .den) (b .num * a .den) {x = tt} {y = tt} (λ h. inl (record { cross = h })) (λ h. inr (record { cross = h }))
+
+pub ⊑-total : (a b : Frac) → (a ⊑ b) ⊎ (b ⊑ a)
+⊑-total a b = ⊎-elim (λ h. inl (⊏-⊑ h)) inr (⊏-or-⊑ a b)
+
+pub ⊏-trans : {a b c : Frac} → Ok a → a ⊏ b → b ⊏ c → a ⊏ c
+⊏-trans {a} {b} {c} ok h k = ⊎-elim (λ l. l) (λ g. absurd (not-⊏ k (⊑-trans ok g (⊏-⊑ h)))) (⊏-or-⊑ a c)
+
+pub ⊏-⊑-trans : {a b c : Frac} → Ok c → a ⊏ b → b ⊑ c → a ⊏ c
+⊏-⊑-trans {a} {b} {c} ok h k = ⊎-elim (λ l. l) (λ g. absurd (not-⊏ h (⊑-trans ok k g))) (⊏-or-⊑ a c)
+
+pub ⊑-⊏-trans : {a b c : Frac} → Ok a → a ⊑ b → b ⊏ c → a ⊏ c
+⊑-⊏-trans {a} {b} {c} ok h k = ⊎-elim (λ l. l) (λ g. absurd (not-⊏ k (⊑-trans ok g h))) (⊏-or-⊑ a c)
+
+-- the test a ⊑ b
+pub atMost-true : (a b : Frac) → a ⊑ b → atMost a b ≡ true
+atMost-true a b h = le-leb _ _ (h .cross)
+
+pub atMost-false : (a b : Frac) → b ⊏ a → atMost a b ≡ false
+atMost-false a b h = lt-leb _ _ (h .cross)
+
+-- the lesser and the greater of two
+pub lesser-left : (a b : Frac) → lesser a b ⊑ a
+lesser-left a b = lesser-ind (λ x. x ⊑ a) a b ⊏-⊑ (λ h. ⊑-refl a)
+
+pub lesser-right : (a b : Frac) → lesser a b ⊑ b
+lesser-right a b = lesser-ind (λ x. x ⊑ b) a b (λ h. ⊑-refl b) (λ h. h)
+
+pub lesser-least : {x a b : Frac} → x ⊑ a → x ⊑ b → x ⊑ lesser a b
+lesser-least {x} {a} {b} f g = lesser-ind (λ y. x ⊑ y) a b (λ h. g) (λ h. f)
+
+pub lesser-ok : {a b : Frac} → Ok a → Ok b → Ok (lesser a b)
+lesser-ok {a} {b} f g = lesser-ind Ok a b (λ h. g) (λ h. f)
+
+pub lesser-lt : {a b : Frac} → b ⊏ a → lesser a b ≡ b
+unfolding lesser
+lesser-lt h = simp (lt-ltb _ _ (h .cross))
+
+pub lesser-ge : {a b : Frac} → a ⊑ b → lesser a b ≡ a
+unfolding lesser
+lesser-ge h = simp (le-ltb _ _ (h .cross))
+
+pub greater-left : (a b : Frac) → a ⊑ greater a b
+greater-left a b = greater-ind (λ x. a ⊑ x) a b ⊏-⊑ (λ h. ⊑-refl a)
+
+pub greater-right : (a b : Frac) → b ⊑ greater a b
+greater-right a b = greater-ind (λ x. b ⊑ x) a b (λ h. ⊑-refl b) (λ h. h)
+
+pub greater-most : {x a b : Frac} → a ⊑ x → b ⊑ x → greater a b ⊑ x
+greater-most {x} {a} {b} f g = greater-ind (λ y. y ⊑ x) a b (λ h. g) (λ h. f)
+
+pub greater-ok : {a b : Frac} → Ok a → Ok b → Ok (greater a b)
+greater-ok {a} {b} f g = greater-ind Ok a b (λ h. g) (λ h. f)
+
+pub greater-lt : {a b : Frac} → a ⊏ b → greater a b ≡ b
+unfolding greater
+greater-lt h = simp (lt-ltb _ _ (h .cross))
+
+pub greater-ge : {a b : Frac} → b ⊑ a → greater a b ≡ a
+unfolding greater
+greater-ge h = simp (le-ltb _ _ (h .cross))
+
+pub greater-assoc : (a b c : Frac) → Ok a → Ok b → greater (greater a b) c ≡ greater a (greater b c)
+greater-assoc a b c oka okb = go (⊏-or-⊑ a b) (⊏-or-⊑ b c)
+  where
+    go : (a ⊏ b) ⊎ (b ⊑ a) → (b ⊏ c) ⊎ (c ⊑ b) → greater (greater a b) c ≡ greater a (greater b c)
+    go (inl h) (inl k) = rw (greater-lt h, greater-lt k, greater-lt (⊏-trans oka h k))
+    go (inl h) (inr k) = rw (greater-lt h, greater-ge k, greater-lt h)
+    go (inr h) (inl k) = rw (greater-ge h, greater-lt k)
+    go (inr h) (inr k) = rw (greater-ge h, greater-ge k, greater-ge h, greater-ge (⊑-trans okb k h))
+
+-- finite fractions
+pub noBound-not-finite : Finite noBound → ⊥
+noBound-not-finite f = omega (arith, f .pos)
+
+pub finite-ok : {a : Frac} → Finite a → Ok a
+finite-ok f = record { some = omega (arith, f .pos) }
+
+pub finite-below : {a b : Frac} → Ok a → a ⊑ b → Finite b → Finite a
+finite-below {a} {b} ok h f = go (a .den) refl
+  where
+    go : (d : ℕ) → a .den ≡ d → Finite a
+    go zero e =
+        let k : a .num * b .den ≤ b .num * 0 = rw e at (h .cross) in
+        let z : b .den ≤ 0 = le-of-mul-le-mul-left {k = a .num} (omega arith) (omega arith) in
+        absurd (omega arith)
+    go (suc d) e = record { pos = omega arith }
+
+-- the least over a range
+pub record Reached (n : ℕ) (g : ℕ → Frac) (x : Frac) : Type 0 where
+  pub at : ℕ
+  pub above : 0 < at
+  pub within : at ≤ n
+  pub value : x ≡ g at
+  pub before : (t : ℕ) → 0 < t → t < at → x ⊏ g t
+
+module _ (g : ℕ → Frac) (ok : (t : ℕ) → 0 < t → Ok (g t)) where
+  pub leastOver-ok : (n : ℕ) → Ok (leastOver n g)
+  unfolding leastOver
+  leastOver-ok zero = record { some = omega arith }
+  leastOver-ok (suc n) = lesser-ok (leastOver-ok n) (ok (suc n) (omega arith))
+
+  pub leastOver-below : (n t : ℕ) → 0 < t → t ≤ n → leastOver n g ⊑ g t
+  unfolding leastOver
+  leastOver-below zero t h k = absurd (omega arith)
+  leastOver-below (suc n) t h k =
+      ⊎-elim (λ e. rw e (lesser-right _ _)) (λ l. ⊑-trans (leastOver-ok n) (lesser-left _ _) (leastOver-below n t h (omega arith))) (eq-or-lt-of-le k)
+
+  pub leastOver-mono : (h : ℕ → Frac) → ((t : ℕ) → g t ⊑ h t) → (n : ℕ) → leastOver n g ⊑ leastOver n h
+  unfolding leastOver
+  leastOver-mono h m zero = ⊑-refl _
+  leastOver-mono h m (suc n) =
+      lesser-least (⊑-trans (leastOver-ok n) (lesser-left _ _) (leastOver-mono h m n))
+      (⊑-trans (ok (suc n) (omega arith)) (lesser-right _ _) (m (suc n)))
+
+  pub leastOver-reached : (n : ℕ) → (leastOver n g ≡ noBound) ⊎ Reached n g (leastOver n g)
+  unfolding leastOver
+  leastOver-reached zero = inl refl
+  leastOver-reached (suc n) =
+      lesser-ind (λ x. (x ≡ noBound) ⊎ Reached (suc n) g x) _ _
+      (λ h. inr (record {
+        at = suc n;
+        above = omega arith;
+        within = le-refl _;
+        value = refl;
+        before = λ t k l. ⊏-⊑-trans (ok t k) h (leastOver-below n t k (omega arith));
+      }))
+      (λ _. ⊎-elim inl
+      (λ r. inr (record { at = r .at; above = r .above; within = omega (arith, r .within); value = r .value; before = r .before }))
+      (leastOver-reached n))
+
+-- the greatest of a list
+abbrev pub AllOk : List Frac → Type 0
+AllOk xs = (x : Frac) → List·Memᴰ x xs → Ok x
+
+rest-ok : {x : Frac} {xs : List Frac} → AllOk (x ∷ xs) → AllOk xs
+rest-ok ok y m = ok y (List·Memᴰ·tail m)
+
+pub greatestOf-ok : (xs : List Frac) → AllOk xs → Ok (greatestOf xs)
+unfolding greatestOf
+greatestOf-ok [] ok = record { some = omega arith }
+greatestOf-ok (x ∷ xs) ok = greater-ok (ok x (List·Memᴰ·head refl)) (greatestOf-ok xs (rest-ok ok))
+
+pub greatestOf-above : {x : Frac} {xs : List Frac} → AllOk xs → List·Memᴰ x xs → x ⊑ greatestOf xs
+unfolding greatestOf
+greatestOf-above ok (List·Memᴰ·head e) = rw e (greater-left _ _)
+greatestOf-above ok (List·Memᴰ·tail {xs} m) = ⊑-trans (greatestOf-ok xs (rest-ok ok)) (greatestOf-above (rest-ok ok) m) (greater-right _ _)
+
+pub greatestOf-member : (x : Frac) (xs : List Frac) → List·Memᴰ (greatestOf (x ∷ xs)) (x ∷ xs)
+unfolding greatestOf
+greatestOf-member x [] = greater-ind (λ y. List·Memᴰ y (x ∷ [])) x (frac 0 1) (λ h. absurd (omega arith)) (λ _. List·Memᴰ·head refl)
+greatestOf-member x (y ∷ ys) =
+    greater-ind (λ z. List·Memᴰ z (x ∷ y ∷ ys)) x (greatestOf (y ∷ ys)) (λ _. List·Memᴰ·tail (greatestOf-member y ys)) (λ _. List·Memᴰ·head refl)
+
+-- j is the place, from 0, of the first element that reaches the greatest
+pub record FirstGreatest (xs : List Frac) (j : ℕ) : Type 0 where
+  pub within : j < length xs
+  pub value : getD xs j (frac 0 1) ≡ greatestOf xs
+  pub before : (k : ℕ) → k < j → getD xs k (frac 0 1) ⊏ greatestOf xs
+
+greatestOf-later : (x : Frac) (xs : List Frac) (j : ℕ) → x ⊏ greatestOf xs → FirstGreatest xs j → FirstGreatest (x ∷ xs) (suc j)
+unfolding greatestOf
+greatestOf-later x xs j h f = record { within = omega arith; value = f .value ∙ sym (greater-lt h); before = before }
+  where
+    before : (k : ℕ) → k < suc j → getD (x ∷ xs) k (frac 0 1) ⊏ greater x (greatestOf xs)
+    before zero l = rw (greater-lt h) h
+    before (suc k) l = rw (greater-lt h) (f .before k (omega arith))
+
+greatestOf-here : (x : Frac) (xs : List Frac) → greatestOf xs ⊑ x → FirstGreatest (x ∷ xs) 0
+unfolding greatestOf
+greatestOf-here x xs h = record { within = omega arith; value = sym (greater-ge h); before = λ k l. absurd (omega arith) }
+
+pub greatestOf-first : (x : Frac) (xs : List Frac) → (j : ℕ) × FirstGreatest (x ∷ xs) j
+unfolding greatestOf
+greatestOf-first x [] = (0, greatestOf-here x [] (record { cross = omega arith }))
+greatestOf-first x (y ∷ ys) =
+    let r = greatestOf-first y ys in
+    ⊎-elim (λ h. (suc (r .0), greatestOf-later x (y ∷ ys) (r .0) h (r .1))) (λ h. (0, greatestOf-here x (y ∷ ys) h)) (⊏-or-⊑ x (greatestOf (y ∷ ys)))
+
+-- the greatest of no greater fractions is no greater
+pub greatestOf-mono : {xs ys : List Frac} → AllOk xs → AllOk ys → Each (λ x y. x ⊑ y) xs ys → greatestOf xs ⊑ greatestOf ys
+unfolding greatestOf
+greatestOf-mono okx oky none = ⊑-refl _
+greatestOf-mono okx oky (more {x} {y} {xs} {ys} h hs) =
+    greater-most (⊑-trans (oky y (List·Memᴰ·head refl)) h (greater-left _ _))
+    (⊑-trans (greatestOf-ok ys (rest-ok oky)) (greatestOf-mono (rest-ok okx) (rest-ok oky) hs) (greater-right _ _))
