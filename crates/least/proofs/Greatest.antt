@@ -20,9 +20,12 @@ module _ {A : Type 0} (f : A → ℕ) where
   greatest-le b [] h = omega arith
   greatest-le b (x ∷ xs) h = omega (arith, h x (List·Memᴰ·head refl), greatest-le b xs (λ y m. h y (List·Memᴰ·tail m)))
 
-  -- v is 0 or the value on some element
+  -- some element has the value v
+  abbrev pub Reached : List A → ℕ → Type 0
+  Reached xs v = (x : A) × List·Memᴰ x xs × (v ≡ f x)
+
   abbrev pub ZeroOrReached : List A → ℕ → Type 0
-  ZeroOrReached xs v = (v ≡ 0) ⊎ ((x : A) × List·Memᴰ x xs × (v ≡ f x))
+  ZeroOrReached xs v = (v ≡ 0) ⊎ Reached xs v
 
   pub greatest-reached : (xs : List A) → ZeroOrReached xs (greatest (map f xs))
   unfolding greatest
