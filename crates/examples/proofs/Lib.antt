@@ -1,1 +1,3 @@
 pub mod Opened
+pub mod F
+pub mod Examples

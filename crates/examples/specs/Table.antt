@@ -61,9 +61,17 @@ unfoldable pub isOn : Pair → Answer (List Pair) → Bool
 isOn c (answered kept) = some (samePair c) kept
 isOn c (refused r) = false
 
+-- the number and the place of a refusal
+pub record Numbered : Type 0 where
+  pub number : ℕ
+  pub place : ℕ
+
+abbrev pub refusalOf : Answer (List ℕ) → Numbered
+refusalOf a = record { number = numberOf (outcomeOf a); place = placeOf (outcomeOf a) }
+
 abbrev pub Holds : Claim → Type 0
 Holds (prints file listing) = planOf file 8192 ≡ answered listing
-Holds (refuses file number place) = (numberOf (outcomeOf (planOf file 8192)) ≡ number) × (placeOf (outcomeOf (planOf file 8192)) ≡ place)
+Holds (refuses file number place) = refusalOf (planOf file 8192) ≡ record { number = number; place = place }
 Holds (sameFile file other) = file ≡ other
 Holds (offers file k ceilings c) =
     let p = partAt file k in candidateOf (p .period) (tasksIn p) (locksIn p) (λ l. nthOr 0 l ceilings) ≡ c ∷ []
@@ -104,6 +112,7 @@ table =
     ∷ at "L" (refuses (onePart "010" "task\tt\t10\t1\t10\n") 7 1)
     ∷ []
 
-abbrev pub AllHold : List Example → Type 0
-AllHold [] = Unit {0}
-AllHold (e ∷ es) = Holds (e .claim) × AllHold es
+infixr 60 _and_
+pub data AllHold : List Example → Type 0 where
+  nothingMore : AllHold []
+  _and_ : {e : Example} {es : List Example} → Holds (e .claim) → AllHold es → AllHold (e ∷ es)

@@ -1,0 +1,23 @@
+-- Examples A to L of paper 01: every claim of the table holds, from the definitions.
+-- Assumes nothing.
+use mathlib.Core.Path.{refl}
+use Rattle.examples.specs.Table.{table, AllHold, _and_, nothingMore}
+use Rattle.examples.proofs.Opened.{opened}
+use Rattle.examples.proofs.F.{keeps-F}
+
+pub examples : AllHold table
+unfolding opened
+examples =
+    refl  -- A
+    and refl and refl  -- B
+    and refl and refl  -- C
+    and refl  -- D
+    and refl  -- E
+    and keeps-F  -- F
+    and refl  -- G
+    and refl  -- H
+    and refl  -- I
+    and refl  -- J
+    and refl and refl and refl and refl and refl  -- K
+    and refl and refl and refl  -- L
+    and nothingMore

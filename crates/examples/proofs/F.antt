@@ -1,0 +1,135 @@
+-- Example F: the part of table 1 of document 001, doubled. Each of its eighteen settings is tried; that a budget passes and the one below
+-- does not shows which is least.
+-- Assumes nothing.
+use Prim.Native.Nat.{ℕ, _-_, _+_, _<_}
+use native.Mathlib.Omega.{arith}
+use mathlib.Core.Path.{_≡_, refl, sym, ap, ap₂, _∙_}
+use mathlib.Core.List.{List, [], _∷_, _++_, map}
+use mathlib.Core.Bool.{Bool, true, false, not, cond, _&&_, false≢true}
+use borrow.Author.Tests.{eqb-true, ltb-true, not-true}
+use lib.Dec.{eqb, ltb}
+use Rattle.least.specs.declared.Least.the-variants.{At}
+use Rattle.least.specs.Lists.{every, joined, isEmpty, nthOr}
+use Rattle.least.proofs.Lists.{every-pass, every-fail}
+use Rattle.refusal.specs.Questions.{firstNo, whenAnswered, whenDone}
+use Rattle.refusal.specs.Questions.Answer.{answered}
+use Rattle.task_set.specs.declared.Task.{Task}
+use Rattle.task_set.specs.Blocking.{Setting}
+use Rattle.holding.specs.Holding.{permitted, holdingTimeOf}
+use Rattle.budget.specs.Budget.{passes, leastBudget}
+use Rattle.budget.proofs.Passing.{budget-after}
+use Rattle.candidates.specs.declared.Pair.{Pair}
+use Rattle.candidates.specs.Candidates.{pair, pairWith, withCeiling, settings, candidateOf, candidatesIn, keptAmong, keptList}
+use Rattle.plan_file.specs.Numbers.{tasksIn, locksIn}
+use Rattle.plan_file.specs.Reading.{readFile}
+use Rattle.planner.specs.Parts.{keptPairs}
+use Rattle.planner.specs.Answers.{candidatesOf}
+use Rattle.examples.specs.Files.{fileF}
+use Rattle.examples.specs.Table.{partAt}
+use Rattle.examples.proofs.Opened.{opened}
+
+abbrev task : ℕ → ℕ → List ℕ → Task
+task T C us = record { separation = T; cost = C; deadline = T; uses = us }
+
+-- the six tasks; the locks are r2 and r1, in order of first mention
+abbrev pub six : List Task
+six =
+    task 1500 16 (8 ∷ 0 ∷ [])
+    ∷ task 1300 100 (0 ∷ 10 ∷ [])
+    ∷ task 1200 20 (0 ∷ 0 ∷ [])
+    ∷ task 1000 70 (0 ∷ 20 ∷ [])
+    ∷ task 320 2 (0 ∷ 0 ∷ [])
+    ∷ task 300 4 (0 ∷ 0 ∷ [])
+    ∷ []
+
+-- a setting, by the ceilings of r1 and r2, and the pair (Q,X) that is to be its candidate
+record Tried : Type 0 where
+  r1 : ℕ
+  r2 : ℕ
+  found : Pair
+
+abbrev at : ℕ → ℕ → ℕ → ℕ → Tried
+at r1 r2 Q X = record { r1 = r1; r2 = r2; found = pair Q X }
+
+abbrev settingOf : Tried → Setting
+settingOf t = withCeiling (withCeiling (λ l. 0) 1 (t .r2)) 2 (t .r1)
+
+abbrev eighteen : List Tried
+eighteen =
+    at 4 1 102 204 ∷ at 4 2 102 104 ∷ at 4 3 102 84 ∷ at 4 4 102 26 ∷ at 4 5 102 26 ∷ at 4 6 106 26
+    ∷ at 5 1 105 204 ∷ at 5 2 105 104 ∷ at 5 3 105 84 ∷ at 5 4 105 24 ∷ at 5 5 105 24 ∷ at 5 6 106 24
+    ∷ at 6 1 112 204 ∷ at 6 2 112 104 ∷ at 6 3 112 84 ∷ at 6 4 112 20 ∷ at 6 5 112 20 ∷ at 6 6 112 20
+    ∷ []
+
+all-settings : settings six 2 ≡ map settingOf eighteen
+unfolding opened
+all-settings = refl
+
+-- permitted, with that X; the budget passes, the one below does not
+unfoldable isRight : Tried → Bool
+isRight t =
+    let σ = settingOf t in
+    let below = t .found .budget - 1 in
+    permitted six 2 σ && (eqb (holdingTimeOf six 2 σ) (t .found .holding) && (eqb (below + 1) (t .found .budget) && (ltb below 250 && (not (passes 250 six 2 σ below) && passes 250 six 2 σ (below + 1)))))
+
+all-right : every isRight eighteen ≡ true
+unfolding opened isRight
+all-right = refl
+
+both : (a b : Bool) → a && b ≡ true → (a ≡ true) × (b ≡ true)
+both true b e = (refl, e)
+both false b e = absurd (false≢true e)
+
+right-candidate : (t : Tried) → isRight t ≡ true → candidateOf 250 six 2 (settingOf t) ≡ t .found ∷ []
+unfolding isRight candidateOf
+right-candidate t e =
+    let σ = settingOf t in
+    let below = t .found .budget - 1 in
+    let fails = not (passes 250 six 2 σ below) in
+    let succeeds = passes 250 six 2 σ (below + 1) in
+    let p : (permitted six 2 σ ≡ true) × _ = both (permitted six 2 σ) _ e in
+    let x = both (eqb (holdingTimeOf six 2 σ) (t .found .holding)) (eqb (below + 1) (t .found .budget) && (ltb below 250 && (fails && succeeds))) (p .1) in
+    let b = both (eqb (below + 1) (t .found .budget)) (ltb below 250 && (fails && succeeds)) (x .1) in
+    let l = both (ltb below 250) (fails && succeeds) (b .1) in
+    let f = both fails succeeds (l .1) in
+    let least : leastBudget 250 six 2 σ ≡ At (below + 1) = budget-after 250 six 2 σ below (ltb-true below 250 (l .0)) (not-true (passes 250 six 2 σ below) (f .0)) (f .1) in
+    rw (p .0, least) (ap₂ (λ (Q X : ℕ). pair Q X ∷ []) (eqb-true (below + 1) (t .found .budget) (b .0)) (eqb-true (holdingTimeOf six 2 σ) (t .found .holding) (x .0)))
+
+right-candidates : (ts : List Tried) → every isRight ts ≡ true → joined (map (candidateOf 250 six 2) (map settingOf ts)) ≡ map (λ t. t .found) ts
+unfolding joined
+right-candidates [] e = refl
+right-candidates (t ∷ ts) e = go (isRight t) refl (right-candidates ts)
+  where
+    go : (b : Bool) → isRight t ≡ b → (every isRight ts ≡ true → joined (map (candidateOf 250 six 2) (map settingOf ts)) ≡ map (λ t. t .found) ts)
+        → candidateOf 250 six 2 (settingOf t) ++ joined (map (candidateOf 250 six 2) (map settingOf ts)) ≡ t .found ∷ map (λ t. t .found) ts
+    go true h ih = ap₂ _++_ (right-candidate t h) (ih (sym (every-pass isRight t ts h) ∙ e))
+    go false h ih = absurd (false≢true (sym (every-fail isRight t ts h) ∙ e))
+
+candidates-six : candidatesIn 250 six 2 ≡ map (λ t. t .found) eighteen
+unfolding candidatesIn
+candidates-six = ap (λ (l : List Setting). joined (map (candidateOf 250 six 2) l)) all-settings ∙ right-candidates eighteen all-right
+
+kept-among : keptAmong (map (λ t. t .found) eighteen) ≡ pair 102 26 ∷ pair 105 24 ∷ pair 112 20 ∷ []
+unfolding opened
+kept-among = refl
+
+pub kept-six : keptList 250 six 2 ≡ pair 102 26 ∷ pair 105 24 ∷ pair 112 20 ∷ []
+unfolding keptList
+kept-six = ap keptAmong candidates-six ∙ kept-among
+
+-- what the file says
+pub tasks-F : (tasksIn (partAt fileF 1) ≡ six) × (locksIn (partAt fileF 1) ≡ 2) × (partAt fileF 1 .period ≡ 250)
+unfolding opened
+tasks-F = (refl, refl, refl)
+
+kept-F : keptPairs (partAt fileF 1) ≡ pair 102 26 ∷ pair 105 24 ∷ pair 112 20 ∷ []
+unfolding keptPairs
+kept-F = rw (tasks-F .0, tasks-F .1, tasks-F .2) kept-six
+
+read-F : readFile fileF ≡ answered (partAt fileF 1 ∷ [])
+unfolding opened
+read-F = refl
+
+pub keeps-F : candidatesOf fileF 1 ≡ answered (pair 102 26 ∷ pair 105 24 ∷ pair 112 20 ∷ [])
+unfolding candidatesOf whenAnswered whenDone firstNo isEmpty nthOr
+keeps-F = rw (read-F, kept-F) refl
