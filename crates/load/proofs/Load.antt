@@ -5,7 +5,7 @@
 use mathlib.Core.Path.{_≡_, refl, sym, ap, _∙_}
 use mathlib.Core.Logic.{_⊎_, inl, inr, ⊎-elim, _↔_}
 use mathlib.Core.Bool.{Bool, true, false, false≢true, cond}
-use mathlib.Core.List.{List, [], _∷_, map, List·Memᴰ}
+use mathlib.Core.List.{List, [], _∷_, _++_, map, reverse, List·Memᴰ}
 use mathlib.Core.List.List·Memᴰ.{List·Memᴰ·head, List·Memᴰ·tail}
 use Prim.Native.Nat.{ℕ, zero, suc, _*_, _+_, max, _≤_, _<_}
 use native.Mathlib.Nat.{le-refl, mul-le-mul-left, mul-le-mul-right, add-le-add}
@@ -22,6 +22,8 @@ use Rattle.least.specs.Each.Each.{none, more}
 use Rattle.least.specs.Fraction.{frac, noBound, _⊑_, _⊏_, atMost, leastOver, greatestOf}
 use Rattle.least.proofs.Each.{each-map}
 use Rattle.least.proofs.Search.{any-iff}
+use Rattle.least.proofs.Lists.{nth-get}
+use Rattle.least.proofs.Along.{along-iff}
 use Rattle.least.proofs.Fraction.{Ok, Finite, AllOk, Reached, FirstGreatest, cond-le, atMost-true, atMost-false, ⊑-refl, ⊑-trans, ⊑-noBound, not-⊏, greater-ind, greater-left, greater-right, noBound-not-finite, finite-below, leastOver-ok, leastOver-below, leastOver-mono, leastOver-reached, greatestOf-ok, greatestOf-above, greatestOf-member, greatestOf-first, greatestOf-mono}
 use Rattle.load.specs.declared.Row.{Row}
 use Rattle.load.specs.Load.{rowSum, demandOf, loadAt, rowPasses, passesSystem, ratio, boundOf, boundsOf, loadOf, loadRow}
@@ -189,6 +191,15 @@ pub passes-finite : (rows : List Row) → (passesSystem rows ≡ true) ↔ Finit
 unfolding passesSystem loadOf boundsOf
 passes-finite rows = every-finite [] rows
 
+-- every row has a time t within its period that serves it
+pub passes-paper : (rows : List Row)
+    → (passesSystem rows ≡ true)
+    ↔ ((lower : List Row) (s : Row) (higher : List Row) → reverse lower ++ (s ∷ higher) ≡ rows → (t : ℕ) × (1 ≤ t) × (t ≤ s .period) × (loadAt lower s higher t ≤ t))
+unfolding passesSystem
+passes-paper rows =
+    let iff = along-iff rowPasses rows in
+    ((λ p lower s higher e. rowPasses-paper lower s higher .0 (iff .0 p lower s higher e)), λ f. iff .1 (λ lower s higher e. rowPasses-paper lower s higher .1 (f lower s higher e)))
+
 -- the load is the greatest bound
 member-if-any : (xs : List Frac) → 1 ≤ length xs → List·Memᴰ (greatestOf xs) xs
 member-if-any [] h = absurd (omega arith)
@@ -204,12 +215,6 @@ pub record LoadRow (rows : List Row) (k : ℕ) : Type 0 where
   pub within : k ≤ length rows
   pub value : nthOr (frac 0 1) k (boundsOf rows) ≡ loadOf rows
   pub before : (j : ℕ) → 1 ≤ j → j < k → nthOr (frac 0 1) j (boundsOf rows) ⊏ loadOf rows
-
-nthOr-getD : {A : Type 0} (d : A) (k : ℕ) (xs : List A) → nthOr d (suc k) xs ≡ getD xs k d
-unfolding nthOr
-nthOr-getD d k [] = refl
-nthOr-getD d zero (x ∷ xs) = refl
-nthOr-getD d (suc k) (x ∷ xs) = nthOr-getD d k xs
 
 firstFrom-is : {A : Type 0} (test : A → Bool) (d : A) (i j : ℕ) (xs : List A) → j < length xs → test (getD xs j d) ≡ true → ((k : ℕ) → k < j → test (getD xs k d) ≡ false) → firstFrom i test xs ≡ i + j
 unfolding firstFrom
@@ -230,13 +235,13 @@ unfolding loadOf
 loadRow-at rows j f = record {
   above = omega arith;
   within = omega (arith, f .within, boundsOf-length rows);
-  value = nthOr-getD (frac 0 1) j (boundsOf rows) ∙ f .value;
+  value = nth-get (frac 0 1) j (boundsOf rows) ∙ f .value;
   before = earlier;
 }
   where
     earlier : (k : ℕ) → 1 ≤ k → k < suc j → nthOr (frac 0 1) k (boundsOf rows) ⊏ greatestOf (boundsOf rows)
     earlier zero h l = absurd (omega arith)
-    earlier (suc k) h l = rw nthOr-getD (f .before k (omega arith))
+    earlier (suc k) h l = rw nth-get (f .before k (omega arith))
 
 first-if-any : (xs : List Frac) → 1 ≤ length xs → (j : ℕ) × FirstGreatest xs j
 first-if-any [] h = absurd (omega arith)
