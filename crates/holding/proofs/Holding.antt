@@ -1,24 +1,27 @@
 -- Holding times, permitted settings and X in the paper's words: the search up to the smallest deadline finds the holding time w if it is
 -- at most that deadline, and nothing else.
 -- Assumes nothing.
-use Prim.Native.Nat.{ℕ, _≤_}
+use Prim.Native.Nat.{ℕ, _+_, _≤_}
 use native.Mathlib.Omega.{arith}
 use native.Mathlib.Decide.{decLe}
 use mathlib.Core.Path.{_≡_, refl, sym, ap, _∙_, subst}
-use mathlib.Core.Bool.{true, false≢true}
+use mathlib.Core.Bool.{true, _&&_, false≢true}
 use mathlib.Core.Logic.{_⊎_, inl, inr, _↔_}
 use mathlib.Core.List.{List, List·Memᴰ, Memᴰ·map, Memᴰ·of-map}
+use lib.Dec.{leb}
+use lib.ListN.{length}
+use borrow.Author.Tests.{leb-true, le-leb}
 use Rattle.least.specs.declared.Least.{Least}
 use Rattle.least.specs.declared.Least.the-variants.{At, Nothing}
 use Rattle.least.specs.Search.{numberOr0}
-use Rattle.least.specs.Lists.{range, every, those}
+use Rattle.least.specs.Lists.{range, those}
 use Rattle.least.proofs.Search.{least-iff, least-unique}
-use Rattle.least.proofs.Lists.{range-iff, every-member, every-all, those-member, those-passing, smallest-le, smallest-member}
+use Rattle.least.proofs.Lists.{and-iff, range-iff, every-range, those-member, those-passing, smallest-le, smallest-member}
 use Rattle.least.proofs.Greatest.{Reached, greatest-each, greatest-reached}
 use Rattle.task_set.specs.declared.Task.{Task}
-use Rattle.task_set.specs.Tasks.{uses, smallestDeadline}
+use Rattle.task_set.specs.Tasks.{uses, higher, demandIn, lowestCeiling, greatestHeld, smallestDeadline}
 use Rattle.task_set.specs.Blocking.{Setting}
-use Rattle.holding.specs.Holding.{held, HoldingTime, holdingOf, exists, permitted, holdingTimeOf}
+use Rattle.holding.specs.Holding.{held, HoldingTime, holdingOf, inRange, exists, permitted, holdingTimeOf}
 
 -- the smallest deadline among the users of lock l: at most that of each, and that of one
 pub smallest-paper : (l : ℕ) (ts : List Task) (task : Task) → List·Memᴰ task ts → uses l task ≡ true → (smallestDeadline l ts ≤ task .deadline) × ((k : Task) × List·Memᴰ k ts × (uses l k ≡ true) × (k .deadline ≡ smallestDeadline l ts))
@@ -28,6 +31,25 @@ smallest-paper l ts task m u =
     let s = Memᴰ·of-map (λ (k : Task). k .deadline) (those (uses l) ts) (smallest-member _ d) in
     let k = those-member (uses l) ts (s .1) in
     (smallest-le _ d, (s .0, k .0, k .1, s .2))
+
+pub held-paper : (ts : List Task) (l r w : ℕ) → (held ts l r w ≡ true) ↔ (greatestHeld l ts + demandIn (higher r ts) w ≤ w)
+unfolding held
+held-paper ts l r w = (leb-true _ w, le-leb _ w)
+
+between-iff : (low r n : ℕ) → ((leb low r && leb r n) ≡ true) ↔ ((low ≤ r) × (r ≤ n))
+between-iff low r n = (to, λ h. and-iff (leb low r) (leb r n) .1 (le-leb low r (h .0), le-leb r n (h .1)))
+  where
+    to : (leb low r && leb r n) ≡ true → (low ≤ r) × (r ≤ n)
+    to e = let h = and-iff (leb low r) (leb r n) .0 e in (leb-true low r (h .0), leb-true r n (h .1))
+
+-- each ceiling is from the lock's lowest to n
+abbrev pub Ranged : List Task → ℕ → Setting → Type 0
+Ranged ts m σ = (l : ℕ) → 1 ≤ l → l ≤ m → (lowestCeiling l ts ≤ σ l) × (σ l ≤ length ts)
+
+pub inRange-paper : (ts : List Task) (m : ℕ) (σ : Setting) → (inRange ts m σ ≡ true) ↔ Ranged ts m σ
+unfolding inRange
+inRange-paper ts m σ =
+    ((λ e l a b. between-iff _ _ _ .0 (every-range _ 1 m .0 e l a b)), λ h. every-range _ 1 m .1 (λ l a b. between-iff _ _ _ .1 (h l a b)))
 
 pub holding-paper : (ts : List Task) (l r w : ℕ) → (holdingOf ts l r ≡ At w) ↔ (HoldingTime ts l r w × (w ≤ smallestDeadline l ts))
 unfolding holdingOf
@@ -53,13 +75,8 @@ in-time ts l r = (to, from)
 
 pub permitted-paper : (ts : List Task) (m : ℕ) (σ : Setting) → (permitted ts m σ ≡ true) ↔ ((l : ℕ) → 1 ≤ l → l ≤ m → InTime ts l (σ l))
 unfolding permitted
-permitted-paper ts m σ = (to, from)
-  where
-    to : every (λ l. exists (holdingOf ts l (σ l))) (range 1 m) ≡ true → (l : ℕ) → 1 ≤ l → l ≤ m → InTime ts l (σ l)
-    to e l a b = in-time ts l (σ l) .0 (every-member _ (range 1 m) e (range-iff 1 m l .1 (a, b)))
-
-    from : ((l : ℕ) → 1 ≤ l → l ≤ m → InTime ts l (σ l)) → every (λ l. exists (holdingOf ts l (σ l))) (range 1 m) ≡ true
-    from h = every-all _ (range 1 m) (λ l k. let r = range-iff 1 m l .0 k in in-time ts l (σ l) .1 (h l (r .0) (r .1)))
+permitted-paper ts m σ =
+    ((λ e l a b. in-time ts l (σ l) .0 (every-range _ 1 m .0 e l a b)), λ h. every-range _ 1 m .1 (λ l a b. in-time ts l (σ l) .1 (h l a b)))
 
 -- X is the greatest holding time of the locks, or 0 without locks
 pub record IsGreatest (ts : List Task) (m : ℕ) (σ : Setting) (X : ℕ) : Type 0 where

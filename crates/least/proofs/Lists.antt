@@ -6,11 +6,16 @@ use native.Mathlib.Nat.{eq-or-lt-of-le}
 use native.Mathlib.Omega.{arith}
 use native.Mathlib.Decide.{decLe}
 use mathlib.Core.Path.{_≡_, refl, sym, ap, ap₂, _∙_, subst}
-use mathlib.Core.Bool.{Bool, true, false, false≢true}
+use mathlib.Core.Bool.{Bool, true, false, _&&_, false≢true}
 use mathlib.Core.Logic.{_⊎_, inl, inr, ⊎-elim, _↔_}
 use mathlib.Core.List.{List, [], _∷_, _++_, map, List·Memᴰ, List·Memᴰ·head, List·Memᴰ·tail, List·Memᴰ·not-nil, List·Memᴰ·cases-cons, List·Memᴰ·append-cases, List·Memᴰ·eq-of-singleton, Memᴰ·cast, Memᴰ·append-left, Memᴰ·append-right, Memᴰ·map, Memᴰ·of-map}
 use lib.ListN.{length, getD}
 use Rattle.least.specs.Lists.{smallest, countFrom, range, nthOr, every, some, those, joined, firstFrom, firstOf}
+
+-- two tests at once
+pub and-iff : (a b : Bool) → ((a && b) ≡ true) ↔ ((a ≡ true) × (b ≡ true))
+and-iff true b = ((λ e. (refl, e)), λ h. h .1)
+and-iff false b = ((λ e. absurd (false≢true e)), λ h. h .0)
 
 -- the n numbers from a on
 pub count-from : (n a l : ℕ) → List·Memᴰ l (countFrom a n) → (a ≤ l) × (l < a + n)
@@ -266,6 +271,10 @@ module _ {A B : Type 0} where
           let j = joined-member (map f xs) m in
           let k = Memᴰ·of-map f xs (j .1) in
           (k .0, k .1, subst (List·Memᴰ y) (sym (k .2)) (j .2))
+
+-- every number of a range passes
+pub every-range : (test : ℕ → Bool) (a e : ℕ) → (every test (range a e) ≡ true) ↔ ((l : ℕ) → a ≤ l → l ≤ e → test l ≡ true)
+every-range test a e = ((λ t l h k. every-member test (range a e) t (range-iff a e l .1 (h, k))), λ h. every-all test (range a e) (λ l m. let r = range-iff a e l .0 m in h l (r .0) (r .1)))
 
 -- the smallest number of a list is no greater than any of them, and is one of them
 pub smallest-le : {x : ℕ} (xs : List ℕ) → List·Memᴰ x xs → smallest xs ≤ x
