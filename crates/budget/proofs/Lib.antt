@@ -1,2 +1,2 @@
-pub mod Agree
 pub mod Passing
+pub mod Agree
