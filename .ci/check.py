@@ -65,8 +65,8 @@ def check_trace():
     trace = (TOP / 'docs' / 'TRACE.md').read_text()
     known = {name: declared(name) for name in crates()}
     for quoted in sorted(set(re.findall(r'`([^`\n]+)`', trace))):
-        if re.fullmatch(r'[\w./-]*/[\w./-]+', quoted) and not re.match(r'\w+ must-fail/', quoted):
-            if not (TOP / quoted).exists():
+        if re.fullmatch(r'[\w./-]+', quoted):
+            if not quoted.endswith('/') and not (TOP / quoted).exists():
                 fault('docs/TRACE.md', f'no file {quoted}')
             continue
         m = re.fullmatch(r'(\w+) (\S+)', quoted)
@@ -78,7 +78,7 @@ def check_trace():
     for mark in re.findall(r'^- (\w+)\. ', (TOP / 'docs' / 'PAPER-01.md').read_text(), re.M):
         if mark not in entries:
             fault('docs/TRACE.md', f'sentence {mark} has no entry')
-        elif not any(cell.strip(' –') for cell in entries[mark].split('|')[1:]):
+        elif not any(cell.strip(' –') for cell in entries[mark].split('|')):
             fault('docs/TRACE.md', f'the entry of sentence {mark} is empty')
 
 
