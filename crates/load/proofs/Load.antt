@@ -146,7 +146,7 @@ module _ (lower : List Row) (s : Row) (higher : List Row) where
           (leastOver-reached (λ u. ratio (loadAt lower s higher u) u) (λ u k. ratio-ok _ u k) (s .period))
 
 -- every bound is a fraction, and there is one for each row
-behind-ok : (lower rows : List Row) → AllOk (behind boundOf lower rows)
+pub behind-ok : (lower rows : List Row) → AllOk (behind boundOf lower rows)
 unfolding behind
 behind-ok lower (r ∷ rs) b (List·Memᴰ·head e) = rw e (boundOf-ok lower r rs)
 behind-ok lower (r ∷ rs) b (List·Memᴰ·tail m) = behind-ok (r ∷ lower) rs b m
@@ -269,7 +269,7 @@ under-asks u = record { period = u .period; sums = u .sums }
 abbrev pub heldBelow : List Row → ℕ
 heldBelow lower = greatest (map (λ k. k .holding) lower)
 
-held-more : (r s : Row) (lower lower′ : List Row) → r .holding ≤ s .holding → heldBelow lower ≤ heldBelow lower′ → heldBelow (r ∷ lower) ≤ heldBelow (s ∷ lower′)
+pub held-more : (r s : Row) (lower lower′ : List Row) → r .holding ≤ s .holding → heldBelow lower ≤ heldBelow lower′ → heldBelow (r ∷ lower) ≤ heldBelow (s ∷ lower′)
 unfolding greatest
 held-more r s lower lower′ h k = omega arith
 

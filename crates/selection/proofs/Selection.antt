@@ -48,11 +48,11 @@ lighter-ind P c d f g = cond-lt P _ _ (λ h. f (record { cross = h })) (λ h. g 
 
 pub data FirstBehind {A : Type 0} (P : A → Type 0) (x : A) : List A → Type 0 where
   here : {y : A} {ys : List A} → x ≡ y → FirstBehind P x (y ∷ ys)
-  behind : {y : A} {ys : List A} → P y → FirstBehind P x ys → FirstBehind P x (y ∷ ys)
+  later : {y : A} {ys : List A} → P y → FirstBehind P x ys → FirstBehind P x (y ∷ ys)
 
 pub first-member : {A : Type 0} {P : A → Type 0} {x : A} {xs : List A} → FirstBehind P x xs → List·Memᴰ x xs
 first-member (here e) = List·Memᴰ·head e
-first-member (behind p f) = List·Memᴰ·tail (first-member f)
+first-member (later p f) = List·Memᴰ·tail (first-member f)
 
 -- greater loads stand before it
 abbrev pub Heavier : List Row → List Row → Type 0
@@ -62,7 +62,7 @@ leastLoaded-behind : (c : List Row) (cs : List (List Row)) → FirstBehind (Heav
 unfolding leastLoaded
 leastLoaded-behind c [] = here refl
 leastLoaded-behind c (d ∷ ds) =
-    lighter-ind (λ x. FirstBehind (Heavier x) x (c ∷ d ∷ ds)) c _ (λ h. behind h (leastLoaded-behind d ds)) (λ _. here refl)
+    lighter-ind (λ x. FirstBehind (Heavier x) x (c ∷ d ∷ ds)) c _ (λ h. later h (leastLoaded-behind d ds)) (λ _. here refl)
 
 leastLoaded-below : (c : List Row) (cs : List (List Row)) (b : List Row) → List·Memᴰ b (c ∷ cs) → loadOf (leastLoaded (c ∷ cs)) ⊑ loadOf b
 unfolding leastLoaded
@@ -93,7 +93,7 @@ pub record Parted {A : Type 0} (P : A → Type 0) (x : A) (xs : List A) : Type 0
 
 first-parted : {A : Type 0} {P : A → Type 0} {x : A} {xs : List A} → FirstBehind P x xs → Parted P x xs
 first-parted (here {ys} e) = record { before = []; after = ys; whole = ap (λ z. z ∷ ys) (sym e); each = λ b m. absurd (List·Memᴰ·not-nil m) }
-first-parted {A} {P} {x} (behind {y} {ys} p f) =
+first-parted {A} {P} {x} (later {y} {ys} p f) =
     let k = first-parted f in
     record { before = y ∷ k .before; after = k .after; whole = ap (λ zs. y ∷ zs) (k .whole); each = each k }
   where
