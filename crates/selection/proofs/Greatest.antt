@@ -5,10 +5,10 @@
 --   Merged ms bs cs == in every part ms has the row of bs or of cs that comes first, After which the others are
 -- Of two choices the merged one has no greater load than the heavier of them, and it stands before the first unless it is the first.
 -- Assumes nothing.
-use mathlib.Core.Path.{_≡_, refl, sym, ap}
+use mathlib.Core.Path.{_≡_, refl}
 use mathlib.Core.Logic.{_⊎_, inl, inr, ⊎-elim}
 use mathlib.Core.List.{List, [], _∷_, _++_, map, List·Memᴰ, List·Memᴰ·head, List·Memᴰ·tail, List·Memᴰ·not-nil, Memᴰ·map}
-use Prim.Native.Nat.{ℕ, max, _+_, _≤_}
+use Prim.Native.Nat.{max, _≤_}
 use native.Mathlib.Nat.{le-refl}
 use native.Mathlib.Omega.{arith}
 use native.Mathlib.Decide.{decLe}

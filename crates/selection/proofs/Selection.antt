@@ -1,14 +1,13 @@
 -- The choices are all the ways to take one row of each part, and the least loaded one is the first of least load.
 --   FirstBehind P x xs == x stands in the list, and everything before it has P
 -- Assumes nothing.
-use mathlib.Core.Path.{_≡_, refl, sym, ap, _∙_}
+use mathlib.Core.Path.{_≡_, refl, sym, ap}
 use mathlib.Core.Logic.{_↔_}
-use mathlib.Core.Bool.{Bool, true, cond}
+use mathlib.Core.Bool.{true}
 use mathlib.Core.List.{List, [], _∷_, _++_, map, List·Memᴰ, List·Memᴰ·head, List·Memᴰ·tail, List·Memᴰ·not-nil, List·Memᴰ·eq-of-singleton}
-use Prim.Native.Nat.{ℕ, _≤_}
+use Prim.Native.Nat.{_≤_}
 use native.Mathlib.Omega.{arith}
 use lib.ListN.{length}
-use Rattle.least.specs.declared.Frac.{Frac}
 use Rattle.least.specs.Lists.{some}
 use Rattle.least.specs.Each.{Each}
 use Rattle.least.specs.Each.Each.{none, more}
@@ -24,6 +23,12 @@ use Rattle.selection.specs.Selection.{choices, lighter, leastLoaded}
 abbrev pub Picks : List (List Row) → List Row → Type 0
 Picks offers c = Each (λ rows r. List·Memᴰ r rows) offers c
 
+picks-choices : {offers : List (List Row)} {c : List Row} → Picks offers c → List·Memᴰ c (choices offers)
+unfolding choices
+picks-choices none = List·Memᴰ·head refl
+picks-choices (more {x = rows} {y = r} {xs = others} {ys = c} m ms) =
+    joined-map-iff (λ r. map (λ d. r ∷ d) (choices others)) (r ∷ c) rows .1 (r, m, map-iff (λ d. r ∷ d) (r ∷ c) (choices others) .1 (c, picks-choices ms, refl))
+
 choices-picks : (offers : List (List Row)) {c : List Row} → List·Memᴰ c (choices offers) → Picks offers c
 unfolding choices
 choices-picks [] m = rw (List·Memᴰ·eq-of-singleton m) none
@@ -31,12 +36,6 @@ choices-picks (rows ∷ others) {c} m =
     let j = joined-map-iff (λ r. map (λ d. r ∷ d) (choices others)) c rows .0 m in
     let k = map-iff (λ d. j .0 ∷ d) c (choices others) .0 (j .2) in
     rw (← k .2) (more (j .1) (choices-picks others (k .1)))
-
-picks-choices : {offers : List (List Row)} {c : List Row} → Picks offers c → List·Memᴰ c (choices offers)
-unfolding choices
-picks-choices none = List·Memᴰ·head refl
-picks-choices (more {x = rows} {y = r} {xs = others} {ys = c} m ms) =
-    joined-map-iff (λ r. map (λ d. r ∷ d) (choices others)) (r ∷ c) rows .1 (r, m, map-iff (λ d. r ∷ d) (r ∷ c) (choices others) .1 (c, picks-choices ms, refl))
 
 pub choices-iff : (offers : List (List Row)) (c : List Row) → List·Memᴰ c (choices offers) ↔ Picks offers c
 choices-iff offers c = (choices-picks offers, picks-choices)
