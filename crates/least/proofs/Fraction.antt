@@ -2,7 +2,7 @@
 --   Ok a == a is not 0/0;  Finite a == the denominator is positive
 --   Reached n g x == x is g at some t, 1 ≤ t ≤ n, and g is greater at every smaller time
 -- Assumes nothing.
-use mathlib.Core.Path.{_≡_, refl, sym, ap, _∙_}
+use mathlib.Core.Path.{_≡_, refl, sym, _∙_}
 use mathlib.Core.Logic.{_⊎_, inl, inr, ⊎-elim}
 use mathlib.Core.Bool.{Bool, true, false, cond}
 use mathlib.Core.List.{List, [], _∷_, List·Memᴰ}

@@ -3,11 +3,11 @@
 --   Asks r s  == r has the period of s and costs no more;  Under r s == and holds no longer
 -- Assumes nothing.
 use mathlib.Core.Path.{_≡_, refl, sym, ap, _∙_}
-use mathlib.Core.Logic.{_⊎_, inl, inr, ⊎-elim, _↔_}
-use mathlib.Core.Bool.{Bool, true, false, false≢true, cond}
+use mathlib.Core.Logic.{⊎-elim, _↔_}
+use mathlib.Core.Bool.{Bool, true, false, false≢true}
 use mathlib.Core.List.{List, [], _∷_, _++_, map, reverse, List·Memᴰ}
 use mathlib.Core.List.List·Memᴰ.{List·Memᴰ·head, List·Memᴰ·tail}
-use Prim.Native.Nat.{ℕ, zero, suc, _*_, _+_, max, _≤_, _<_}
+use Prim.Native.Nat.{ℕ, zero, suc, _+_, _≤_, _<_}
 use native.Mathlib.Nat.{le-refl, mul-le-mul-left, mul-le-mul-right, add-le-add}
 use native.Mathlib.Omega.{arith}
 use native.Mathlib.Decide.{decLe}
@@ -19,12 +19,13 @@ use Rattle.least.specs.Round.{ceilDiv}
 use Rattle.least.specs.Lists.{sum, greatest, nthOr, behind, everyBehind, firstFrom}
 use Rattle.least.specs.Each.{Each}
 use Rattle.least.specs.Each.Each.{none, more}
-use Rattle.least.specs.Fraction.{frac, noBound, _⊑_, _⊏_, atMost, leastOver, greatestOf}
+use Rattle.least.specs.Fraction.{frac, noBound, _⊑_, _⊏_, atMost, greatestOf}
 use Rattle.least.proofs.Each.{each-map}
+use Rattle.least.proofs.Round.{ceil-mono}
 use Rattle.least.proofs.Search.{any-iff}
 use Rattle.least.proofs.Lists.{nth-get}
 use Rattle.least.proofs.Along.{along-iff}
-use Rattle.least.proofs.Fraction.{Ok, Finite, AllOk, Reached, FirstGreatest, cond-le, atMost-true, atMost-false, ⊑-refl, ⊑-trans, ⊑-noBound, not-⊏, greater-ind, greater-left, greater-right, noBound-not-finite, finite-below, leastOver-ok, leastOver-below, leastOver-mono, leastOver-reached, greatestOf-ok, greatestOf-above, greatestOf-member, greatestOf-first, greatestOf-mono}
+use Rattle.least.proofs.Fraction.{Ok, Finite, AllOk, Reached, FirstGreatest, cond-le, atMost-true, atMost-false, ⊑-refl, ⊑-noBound, not-⊏, greater-ind, greater-left, greater-right, noBound-not-finite, finite-below, leastOver-ok, leastOver-below, leastOver-mono, leastOver-reached, greatestOf-ok, greatestOf-above, greatestOf-member, greatestOf-first, greatestOf-mono}
 use Rattle.load.specs.declared.Row.{Row}
 use Rattle.load.specs.Load.{rowSum, demandOf, loadAt, rowPasses, passesSystem, ratio, boundOf, boundsOf, loadOf, loadRow}
 
@@ -42,10 +43,10 @@ unfolding ratio
 ratio-ok L t h = cond-le Ok L t (λ _. record { some = omega arith }) (λ _. record { some = omega arith })
 
 -- a ratio with a positive denominator
-pub record Ratio (L t M u : ℕ) : Type 0 where
-  pub nums : M ≡ L
-  pub dens : u ≡ t
-  pub served : L ≤ t
+record Ratio (L t M u : ℕ) : Type 0 where
+  nums : M ≡ L
+  dens : u ≡ t
+  served : L ≤ t
 
 ratio-frac : (L t M u : ℕ) → 1 ≤ u → ratio L t ≡ frac M u → Ratio L t M u
 unfolding ratio
@@ -146,7 +147,7 @@ module _ (lower : List Row) (s : Row) (higher : List Row) where
           (leastOver-reached (λ u. ratio (loadAt lower s higher u) u) (λ u k. ratio-ok _ u k) (s .period))
 
 -- every bound is a fraction, and there is one for each row
-behind-ok : (lower rows : List Row) → AllOk (behind boundOf lower rows)
+pub behind-ok : (lower rows : List Row) → AllOk (behind boundOf lower rows)
 unfolding behind
 behind-ok lower (r ∷ rs) b (List·Memᴰ·head e) = rw e (boundOf-ok lower r rs)
 behind-ok lower (r ∷ rs) b (List·Memᴰ·tail m) = behind-ok (r ∷ lower) rs b m
@@ -251,6 +252,17 @@ pub loadRow-first : (rows : List Row) → 1 ≤ length rows → LoadRow rows (lo
 loadRow-first rows h =
     let f = first-if-any (boundsOf rows) (omega (arith, boundsOf-length rows)) in
     rw (loadRow-place rows (f .0) (f .1)) (loadRow-at rows (f .0) (f .1))
+
+-- demand and load do not fall in t
+pub demandOf-mono-t : (rows : List Row) → ((r : Row) → List·Memᴰ r rows → 1 ≤ r .period) → {t u : ℕ} → t ≤ u → demandOf rows t ≤ demandOf rows u
+unfolding demandOf sum
+demandOf-mono-t [] p h = le-refl 0
+demandOf-mono-t (r ∷ rs) p {t} {u} h =
+    add-le-add (mul-le-mul-right (rowSum r) (ceil-mono t u (r .period) (p r (List·Memᴰ·head refl)) h)) (demandOf-mono-t rs (λ s m. p s (List·Memᴰ·tail m)) h)
+
+pub loadAt-mono-t : (lower : List Row) (s : Row) (higher : List Row) → ((r : Row) → List·Memᴰ r higher → 1 ≤ r .period) → {t u : ℕ} → t ≤ u → loadAt lower s higher t ≤ loadAt lower s higher u
+unfolding loadAt
+loadAt-mono-t lower s higher p h = omega (arith, demandOf-mono-t higher p h)
 
 -- rows that ask no less, below which no less is held, have no smaller bounds
 pub record Asks (r s : Row) : Type 0 where

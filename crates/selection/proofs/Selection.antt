@@ -1,14 +1,13 @@
 -- The choices are all the ways to take one row of each part, and the least loaded one is the first of least load.
 --   FirstBehind P x xs == x stands in the list, and everything before it has P
 -- Assumes nothing.
-use mathlib.Core.Path.{_≡_, refl, sym, ap, _∙_}
+use mathlib.Core.Path.{_≡_, refl, sym, ap}
 use mathlib.Core.Logic.{_↔_}
-use mathlib.Core.Bool.{Bool, true, cond}
+use mathlib.Core.Bool.{true}
 use mathlib.Core.List.{List, [], _∷_, _++_, map, List·Memᴰ, List·Memᴰ·head, List·Memᴰ·tail, List·Memᴰ·not-nil, List·Memᴰ·eq-of-singleton}
-use Prim.Native.Nat.{ℕ, _≤_}
+use Prim.Native.Nat.{_≤_}
 use native.Mathlib.Omega.{arith}
 use lib.ListN.{length}
-use Rattle.least.specs.declared.Frac.{Frac}
 use Rattle.least.specs.Lists.{some}
 use Rattle.least.specs.Each.{Each}
 use Rattle.least.specs.Each.Each.{none, more}
@@ -24,6 +23,12 @@ use Rattle.selection.specs.Selection.{choices, lighter, leastLoaded}
 abbrev pub Picks : List (List Row) → List Row → Type 0
 Picks offers c = Each (λ rows r. List·Memᴰ r rows) offers c
 
+picks-choices : {offers : List (List Row)} {c : List Row} → Picks offers c → List·Memᴰ c (choices offers)
+unfolding choices
+picks-choices none = List·Memᴰ·head refl
+picks-choices (more {x = rows} {y = r} {xs = others} {ys = c} m ms) =
+    joined-map-iff (λ r. map (λ d. r ∷ d) (choices others)) (r ∷ c) rows .1 (r, m, map-iff (λ d. r ∷ d) (r ∷ c) (choices others) .1 (c, picks-choices ms, refl))
+
 choices-picks : (offers : List (List Row)) {c : List Row} → List·Memᴰ c (choices offers) → Picks offers c
 unfolding choices
 choices-picks [] m = rw (List·Memᴰ·eq-of-singleton m) none
@@ -31,12 +36,6 @@ choices-picks (rows ∷ others) {c} m =
     let j = joined-map-iff (λ r. map (λ d. r ∷ d) (choices others)) c rows .0 m in
     let k = map-iff (λ d. j .0 ∷ d) c (choices others) .0 (j .2) in
     rw (← k .2) (more (j .1) (choices-picks others (k .1)))
-
-picks-choices : {offers : List (List Row)} {c : List Row} → Picks offers c → List·Memᴰ c (choices offers)
-unfolding choices
-picks-choices none = List·Memᴰ·head refl
-picks-choices (more {x = rows} {y = r} {xs = others} {ys = c} m ms) =
-    joined-map-iff (λ r. map (λ d. r ∷ d) (choices others)) (r ∷ c) rows .1 (r, m, map-iff (λ d. r ∷ d) (r ∷ c) (choices others) .1 (c, picks-choices ms, refl))
 
 pub choices-iff : (offers : List (List Row)) (c : List Row) → List·Memᴰ c (choices offers) ↔ Picks offers c
 choices-iff offers c = (choices-picks offers, picks-choices)
@@ -48,11 +47,11 @@ lighter-ind P c d f g = cond-lt P _ _ (λ h. f (record { cross = h })) (λ h. g 
 
 pub data FirstBehind {A : Type 0} (P : A → Type 0) (x : A) : List A → Type 0 where
   here : {y : A} {ys : List A} → x ≡ y → FirstBehind P x (y ∷ ys)
-  behind : {y : A} {ys : List A} → P y → FirstBehind P x ys → FirstBehind P x (y ∷ ys)
+  later : {y : A} {ys : List A} → P y → FirstBehind P x ys → FirstBehind P x (y ∷ ys)
 
 pub first-member : {A : Type 0} {P : A → Type 0} {x : A} {xs : List A} → FirstBehind P x xs → List·Memᴰ x xs
 first-member (here e) = List·Memᴰ·head e
-first-member (behind p f) = List·Memᴰ·tail (first-member f)
+first-member (later p f) = List·Memᴰ·tail (first-member f)
 
 -- greater loads stand before it
 abbrev pub Heavier : List Row → List Row → Type 0
@@ -62,7 +61,7 @@ leastLoaded-behind : (c : List Row) (cs : List (List Row)) → FirstBehind (Heav
 unfolding leastLoaded
 leastLoaded-behind c [] = here refl
 leastLoaded-behind c (d ∷ ds) =
-    lighter-ind (λ x. FirstBehind (Heavier x) x (c ∷ d ∷ ds)) c _ (λ h. behind h (leastLoaded-behind d ds)) (λ _. here refl)
+    lighter-ind (λ x. FirstBehind (Heavier x) x (c ∷ d ∷ ds)) c _ (λ h. later h (leastLoaded-behind d ds)) (λ _. here refl)
 
 leastLoaded-below : (c : List Row) (cs : List (List Row)) (b : List Row) → List·Memᴰ b (c ∷ cs) → loadOf (leastLoaded (c ∷ cs)) ⊑ loadOf b
 unfolding leastLoaded
@@ -93,7 +92,7 @@ pub record Parted {A : Type 0} (P : A → Type 0) (x : A) (xs : List A) : Type 0
 
 first-parted : {A : Type 0} {P : A → Type 0} {x : A} {xs : List A} → FirstBehind P x xs → Parted P x xs
 first-parted (here {ys} e) = record { before = []; after = ys; whole = ap (λ z. z ∷ ys) (sym e); each = λ b m. absurd (List·Memᴰ·not-nil m) }
-first-parted {A} {P} {x} (behind {y} {ys} p f) =
+first-parted {A} {P} {x} (later {y} {ys} p f) =
     let k = first-parted f in
     record { before = y ∷ k .before; after = k .after; whole = ap (λ zs. y ∷ zs) (k .whole); each = each k }
   where
