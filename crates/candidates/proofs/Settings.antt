@@ -5,7 +5,7 @@ use native.Mathlib.Omega.{arith}
 use native.Mathlib.Decide.{ℕ-discrete}
 use mathlib.Core.Path.{_≡_, refl, sym, ap, _∙_, subst}
 use mathlib.Core.Bool.{Bool, true, cond}
-use mathlib.Core.List.{List, map, List·Memᴰ, List·Memᴰ·head, Memᴰ·map, Memᴰ·of-map}
+use mathlib.Core.List.{List, List·Memᴰ, List·Memᴰ·head, Memᴰ·map, Memᴰ·of-map}
 use lib.ListN.{length}
 use borrow.Author.Tests.{eq-eqb, ne-eqb}
 use Rattle.least.specs.Lists.{range}
