@@ -1,2 +1,3 @@
 pub mod Settings
 pub mod Falling
+pub mod Keeping
