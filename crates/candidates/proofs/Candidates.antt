@@ -1,6 +1,6 @@
 -- The kept list, made by trying every setting on a list, is what the paper says of every setting and every budget.
 -- Assumes nothing.
-use Prim.Native.Nat.{ℕ, _+_, _≤_}
+use Prim.Native.Nat.{ℕ, _≤_}
 use native.Mathlib.Omega.{arith}
 use mathlib.Core.Path.{_≡_, refl, sym, ap, _∙_, subst}
 use mathlib.Core.Bool.{Bool, true, false, cond}
@@ -8,7 +8,7 @@ use mathlib.Core.Logic.{_↔_}
 use mathlib.Core.List.{List, [], List·Memᴰ, List·Memᴰ·head, List·Memᴰ·not-nil, List·Memᴰ·eq-of-singleton}
 use Rattle.least.specs.declared.Least.{Least}
 use Rattle.least.specs.declared.Least.the-variants.{At, Nothing}
-use Rattle.least.proofs.Search.{least-upto}
+use Rattle.least.proofs.Search.{least-upto, least-iff}
 use Rattle.least.proofs.Lists.{joined-map-iff, no-member}
 use Rattle.task_set.specs.declared.Task.{Task}
 use Rattle.task_set.specs.Blocking.{Setting}
@@ -22,7 +22,7 @@ use Rattle.candidates.specs.Candidates.{pair, pairWith, settings, candid
 use Rattle.candidates.specs.Statement.{Permitted, Candidate, IsKept}
 use Rattle.candidates.proofs.Settings.{settings-ranged, settings-all}
 use Rattle.candidates.proofs.Falling.{Falling}
-use Rattle.candidates.proofs.Keeping.{pair-same, NoWorse, Alone, Covered, keptAmong-iff, keptAmong-falls, keptAmong-covers}
+use Rattle.candidates.proofs.Keeping.{pair-same, Covered, keptAmong-iff, keptAmong-falls, keptAmong-covers}
 
 pairWith-iff : (X : ℕ) (a : Least) (c : Pair) → List·Memᴰ c (pairWith X a) ↔ ((X ≡ c .holding) × (a ≡ At (c .budget)))
 pairWith-iff X (At Q) c = (to, λ h. List·Memᴰ·head (pair-same c (pair Q X) (cc (h .1)) (sym (h .0))))
@@ -101,8 +101,11 @@ module _ (P : ℕ) (ts : List Task) (m : ℕ) where
   unfolding keptList
   kept-beside c d = keptAmong-covers (candidatesIn P ts m) c (candidate-iff c .1 d)
 
+  none-beside : (c : Pair) → Covered (keptList P ts m) c → keptList P ts m ≡ [] → ⊥
+  none-beside c k e = List·Memᴰ·not-nil (subst (List·Memᴰ (k .0)) e (k .1))
+
   pub kept-empty : (keptList P ts m ≡ []) ↔ ((c : Pair) → Candidate P ts m c → ⊥)
-  kept-empty = ((λ e c d. let k = kept-beside c d in List·Memᴰ·not-nil (subst (List·Memᴰ (k .0)) e (k .1))), λ none. no-member (keptList P ts m) (λ c k. none c (kept-iff c .0 k .candidate)))
+  kept-empty = ((λ e c d. none-beside c (kept-beside c d) e), λ none. no-member (keptList P ts m) (λ c k. none c (kept-iff c .0 k .candidate)))
 
   -- a budget that passes under a permitted setting makes a candidate of the least one
   least-candidate : (σ : Setting) (Q : ℕ) → Permitted ts m σ → 1 ≤ Q → Q ≤ P → passes P ts m σ Q ≡ true → (q : ℕ) × (q ≤ Q) × Candidate P ts m (pair q (holdingTimeOf ts m σ))
@@ -116,3 +119,16 @@ module _ (P : ℕ) (ts : List Task) (m : ℕ) where
       let l = least-candidate σ Q ok a b t in
       let k = kept-beside (pair (l .0) (holdingTimeOf ts m σ)) (l .2) in
       (k .0, k .1, record { holding = k .2 .holding; sum = omega (arith, k .2 .sum, l .1) })
+
+  -- the same of settings and budgets: no budget passes under any permitted setting
+  abbrev pub NothingPasses : Type 0
+  NothingPasses = (σ : Setting) (Q : ℕ) → Permitted ts m σ → 1 ≤ Q → Q ≤ P → passes P ts m σ Q ≡ true → ⊥
+
+  pub kept-none : (keptList P ts m ≡ []) ↔ NothingPasses
+  unfolding leastBudget
+  kept-none = ((λ e σ Q ok a b t. none-beside (pair Q (holdingTimeOf ts m σ)) (kept-covers σ Q ok a b t) e), λ none. kept-empty .1 (no-candidate none))
+    where
+      no-candidate : NothingPasses → (c : Pair) → Candidate P ts m c → ⊥
+      no-candidate none c d =
+          let l = least-iff (passes P ts m (d .setting)) P (c .budget) .0 (d .budget) in
+          none (d .setting) (c .budget) (d .allowed) (l .0 .positive) (l .1) (l .0 .passes)

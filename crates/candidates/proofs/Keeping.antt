@@ -8,7 +8,6 @@ use mathlib.Core.Path.{_≡_, refl, sym, ap, _∙_}
 use mathlib.Core.Bool.{Bool, true, false, not, _||_, false≢true}
 use mathlib.Core.Logic.{_↔_}
 use mathlib.Core.List.{List, List·Memᴰ}
-use lib.Dec.{leb, eqb}
 use borrow.Author.Tests.{leb-true, le-leb, eqb-true, eq-eqb}
 use Rattle.least.specs.Lists.{every, those}
 use Rattle.least.proofs.Lists.{and-iff, or-not-iff, or-not-false, every-member, every-all, every-not, those-member, those-passing}
@@ -23,7 +22,7 @@ samePair-iff : (d c : Pair) → (samePair d c ≡ true) ↔ (d ≡ c)
 samePair-iff d c = (to, from)
   where
     to : samePair d c ≡ true → d ≡ c
-    to e = let h = and-iff (eqb (d .budget) (c .budget)) (eqb (d .holding) (c .holding)) .0 e in pair-same d c (eqb-true _ _ (h .0)) (eqb-true _ _ (h .1))
+    to e = let h = and-iff _ _ .0 e in pair-same d c (eqb-true _ _ (h .0)) (eqb-true _ _ (h .1))
 
     from : d ≡ c → samePair d c ≡ true
     from e = and-iff _ _ .1 (eq-eqb _ _ (ap (λ p. p .budget) e), eq-eqb _ _ (ap (λ p. p .holding) e))
@@ -38,7 +37,7 @@ noWorse-iff d c = (to, from)
   where
     to : noWorse d c ≡ true → NoWorse d c
     to e =
-        let h = and-iff (leb (d .holding) (c .holding)) (leb (d .budget + d .holding) (c .budget + c .holding)) .0 e in
+        let h = and-iff _ _ .0 e in
         record { holding = leb-true _ _ (h .0); sum = leb-true _ _ (h .1) }
 
     from : NoWorse d c → noWorse d c ≡ true
