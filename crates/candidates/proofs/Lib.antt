@@ -1,1 +1,4 @@
 pub mod Settings
+pub mod Falling
+pub mod Keeping
+pub mod Candidates

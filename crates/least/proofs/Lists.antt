@@ -6,7 +6,7 @@ use native.Mathlib.Nat.{eq-or-lt-of-le}
 use native.Mathlib.Omega.{arith}
 use native.Mathlib.Decide.{decLe}
 use mathlib.Core.Path.{_≡_, refl, sym, ap, ap₂, _∙_, subst}
-use mathlib.Core.Bool.{Bool, true, false, _&&_, false≢true}
+use mathlib.Core.Bool.{Bool, true, false, not, _&&_, _||_, false≢true}
 use mathlib.Core.Logic.{_⊎_, inl, inr, ⊎-elim, _↔_}
 use mathlib.Core.List.{List, [], _∷_, _++_, map, List·Memᴰ, List·Memᴰ·head, List·Memᴰ·tail, List·Memᴰ·not-nil, List·Memᴰ·cases-cons, List·Memᴰ·append-cases, List·Memᴰ·eq-of-singleton, Memᴰ·cast, Memᴰ·append-left, Memᴰ·append-right, Memᴰ·map, Memᴰ·of-map}
 use lib.ListN.{length, getD}
@@ -16,6 +16,17 @@ use Rattle.least.specs.Lists.{smallest, countFrom, range, nthOr, every, 
 pub and-iff : (a b : Bool) → ((a && b) ≡ true) ↔ ((a ≡ true) × (b ≡ true))
 and-iff true b = ((λ e. (refl, e)), λ h. h .1)
 and-iff false b = ((λ e. absurd (false≢true e)), λ h. h .0)
+
+-- a, unless b does not hold
+pub or-not-iff : (a b : Bool) → ((a || not b) ≡ true) ↔ (b ≡ true → a ≡ true)
+or-not-iff true b = ((λ e h. refl), λ h. refl)
+or-not-iff false true = ((λ e h. e), λ h. h refl)
+or-not-iff false false = ((λ e h. h), λ h. refl)
+
+pub or-not-false : (a b : Bool) → (a || not b) ≡ false → (a ≡ false) × (b ≡ true)
+or-not-false true b e = absurd (false≢true (sym e))
+or-not-false false true e = (refl, refl)
+or-not-false false false e = absurd (false≢true (sym e))
 
 -- the n numbers from a on
 pub count-from : (n a l : ℕ) → List·Memᴰ l (countFrom a n) → (a ≤ l) × (l < a + n)
@@ -76,6 +87,16 @@ module _ {A : Type 0} where
 
   pub every-iff : (test : A → Bool) (xs : List A) → (every test xs ≡ true) ↔ ((x : A) → List·Memᴰ x xs → test x ≡ true)
   every-iff test xs = ((λ e x m. every-member test xs e m), every-all test xs)
+
+  -- an element that does not pass
+  pub every-not : (test : A → Bool) (xs : List A) → every test xs ≡ false → (x : A) × List·Memᴰ x xs × (test x ≡ false)
+  unfolding every
+  every-not test [] e = absurd (false≢true (sym e))
+  every-not test (y ∷ ys) e = go (λ h. every-not test ys h) (test y) refl
+    where
+      go : (every test ys ≡ false → (x : A) × List·Memᴰ x ys × (test x ≡ false)) → (b : Bool) → test y ≡ b → (x : A) × List·Memᴰ x (y ∷ ys) × (test x ≡ false)
+      go ih true t = let h = ih (sym (every-pass test y ys t) ∙ e) in (h .0, List·Memᴰ·tail (h .1), h .2)
+      go ih false t = (y, List·Memᴰ·head refl, t)
 
   pub every-same : (test other : A → Bool) (xs : List A) → ((x : A) → List·Memᴰ x xs → test x ≡ other x) → every test xs ≡ every other xs
   unfolding every
@@ -184,6 +205,11 @@ module _ {A : Type 0} where
 
   pub joined-iff : (x : A) (xss : List (List A)) → List·Memᴰ x (joined xss) ↔ ((xs : List A) × List·Memᴰ xs xss × List·Memᴰ x xs)
   joined-iff x xss = (joined-member xss, λ h. joined-of xss (h .1) (h .2))
+
+  -- a list without members
+  pub no-member : (xs : List A) → ((x : A) → List·Memᴰ x xs → ⊥) → xs ≡ []
+  no-member [] h = refl
+  no-member (x ∷ xs) h = absurd (h x (List·Memᴰ·head refl))
 
   -- the k-th element
   pub nth-get : (d : A) (k : ℕ) (xs : List A) → nthOr d (suc k) xs ≡ getD xs k d
