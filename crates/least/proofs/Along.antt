@@ -53,8 +53,3 @@ module _ {A : Type 0} (test : List A → A → List A → Bool) where
 
       from : PassesAlong test xs → everyAlong test xs ≡ true
       from h = behind-true xs [] (λ front x higher e. h (reverse front) x higher (ap (λ (l : List A). l ++ (x ∷ higher)) (reverse-reverse front) ∙ e))
-
--- a test that passes wherever another does
-pub along-more : {A : Type 0} (test other : List A → A → List A → Bool) (xs : List A) → ((lower : List A) (x : A) (higher : List A) → test lower x higher ≡ true → other lower x higher ≡ true) → everyAlong test xs ≡ true → everyAlong other xs ≡ true
-along-more test other xs more q =
-    along-iff other xs .1 (λ lower x higher e. more lower x higher (along-iff test xs .0 q lower x higher e))

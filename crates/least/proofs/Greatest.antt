@@ -1,7 +1,7 @@
 -- Laws of the greatest of the values that a function has on the elements of a list: it is at least each, and one of them or 0.
 -- Assumes nothing.
 use Prim.Native.Nat.{ℕ, max, _≤_}
-use native.Mathlib.Nat.{le-refl, le-trans}
+use native.Mathlib.Nat.{le-trans}
 use native.Mathlib.Omega.{arith}
 use native.Mathlib.Decide.{decLe}
 use mathlib.Core.Path.{_≡_, refl, ap}
@@ -24,12 +24,15 @@ module _ {A : Type 0} (f : A → ℕ) where
   abbrev pub Reached : List A → ℕ → Type 0
   Reached xs v = (x : A) × List·Memᴰ x xs × (v ≡ f x)
 
-  pub greatest-reached : (xs : List A) → (greatest (map f xs) ≡ 0) ⊎ Reached xs (greatest (map f xs))
+  abbrev pub ZeroOrReached : List A → ℕ → Type 0
+  ZeroOrReached xs v = (v ≡ 0) ⊎ Reached xs v
+
+  pub greatest-reached : (xs : List A) → ZeroOrReached xs (greatest (map f xs))
   unfolding greatest
   greatest-reached [] = inl refl
   greatest-reached (x ∷ xs) = go (greatest-reached xs) (decLe (greatest (map f xs)) (f x))
     where
-      go : (greatest (map f xs) ≡ 0) ⊎ Reached xs (greatest (map f xs)) → Dec (greatest (map f xs) ≤ f x) → (max (f x) (greatest (map f xs)) ≡ 0) ⊎ Reached (x ∷ xs) (max (f x) (greatest (map f xs)))
+      go : ZeroOrReached xs (greatest (map f xs)) → Dec (greatest (map f xs) ≤ f x) → ZeroOrReached (x ∷ xs) (max (f x) (greatest (map f xs)))
       go d (yes l) = inr (x, List·Memᴰ·head refl, omega arith)
       go (inl z) (no l) = absurd (omega arith)
       go (inr r) (no l) = inr (r .0, List·Memᴰ·tail (r .1), omega (arith, r .2))

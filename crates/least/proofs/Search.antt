@@ -7,7 +7,6 @@ use native.Mathlib.Decide.{decLe}
 use mathlib.Core.Path.{_≡_, refl, sym, _∙_, ap, subst}
 use mathlib.Core.Bool.{Bool, true, false, false≢true}
 use mathlib.Core.Logic.{_⊎_, inl, inr, _↔_}
-use Rattle.least.specs.declared.Least.{Least}
 use Rattle.least.specs.declared.Least.the-variants.{At, Nothing}
 use Rattle.least.specs.Search.{leastFrom, anyFrom, leastUpTo, anyUpTo, IsLeast}
 

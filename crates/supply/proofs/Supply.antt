@@ -142,7 +142,8 @@ unfolding reach
 reach-anti P Q R x h l = add-le-add (le-refl x) (mul-le-mul (add-le-add (ceil-anti x Q R h l) (le-refl 1)) (sub-le-sub-left l P))
 
 -- a supply x is there, or x is 0
-from-supply : (P Q t : ℕ) → 1 ≤ Q → Q ≤ P → (u R : ℕ) → 1 ≤ R → R ≤ P → (reach P Q (supplyOf P Q t) ≤ t → reach P R (supplyOf P Q t) ≤ u) → supplyOf P Q t ≤ supplyOf P R u
+from-supply : (P Q t : ℕ) → 1 ≤ Q → Q ≤ P → (u R : ℕ) → 1 ≤ R → R ≤ P
+    → (reach P Q (supplyOf P Q t) ≤ t → reach P R (supplyOf P Q t) ≤ u) → supplyOf P Q t ≤ supplyOf P R u
 from-supply P Q t h b u R k d f = go (supplyOf P Q t) refl
   where
     go : (x : ℕ) → supplyOf P Q t ≡ x → supplyOf P Q t ≤ supplyOf P R u

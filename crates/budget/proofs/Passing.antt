@@ -1,0 +1,77 @@
+-- Laws of the local test: the paper's words, and that a greater budget passes where a smaller one does.
+--   Met P Q blocking task higher == some t, 1 ≤ t ≤ D_i, has C_i + Σ_{k>i} ⌈t/T_k⌉×C_k + blocking ≤ supply(t)
+-- Assumes nothing.
+use Prim.Native.Nat.{ℕ, _+_, _≤_, _<_}
+use native.Mathlib.Nat.{le-refl}
+use native.Mathlib.Omega.{arith}
+use mathlib.Core.Path.{_≡_}
+use mathlib.Core.Bool.{true, false}
+use mathlib.Core.List.{List, _∷_, _++_, reverse}
+use mathlib.Core.Logic.{_↔_}
+use borrow.Author.Tests.{le-leb, leb-true}
+use Rattle.least.specs.declared.Least.the-variants.{At, Nothing}
+use Rattle.least.specs.Search.{IsLeast}
+use Rattle.least.proofs.Search.{least-iff, any-iff}
+use Rattle.least.proofs.Bisect.{least-after, none-rising}
+use Rattle.least.proofs.Along.{along-iff}
+use Rattle.supply.specs.Supply.{supplyOf}
+use Rattle.supply.proofs.Supply.{supply-mono-Q}
+use Rattle.task_set.specs.declared.Task.{Task}
+use Rattle.task_set.specs.Blocking.{Setting, blockingOf, needOf}
+use Rattle.task_set.proofs.Blocking.{blocking-mono}
+use Rattle.budget.specs.Budget.{taskPasses, passes, leastBudget}
+
+abbrev pub Met : ℕ → ℕ → ℕ → Task → List Task → Type 0
+Met P Q blocking task higher = (t : ℕ) × (1 ≤ t) × (t ≤ task .deadline) × (needOf blocking task higher t ≤ supplyOf P Q t)
+
+pub taskPasses-iff : (P Q blocking : ℕ) (task : Task) (higher : List Task) → (taskPasses P Q blocking task higher ≡ true) ↔ Met P Q blocking task higher
+unfolding taskPasses
+taskPasses-iff P Q blocking task higher = (to, from)
+  where
+    to : taskPasses P Q blocking task higher ≡ true → Met P Q blocking task higher
+    to q =
+        let f = any-iff _ (task .deadline) .0 q in
+        (f .0, f .1, f .2, leb-true _ _ (f .3))
+
+    from : Met P Q blocking task higher → taskPasses P Q blocking task higher ≡ true
+    from f = any-iff _ (task .deadline) .1 (f .0, f .1, f .2, le-leb _ _ (f .3))
+
+-- each task i of the part passes: the i − 1 tasks `lower` stand before it, nearest first, and the tasks `higher` behind it
+pub passes-paper : (P : ℕ) (ts : List Task) (m : ℕ) (σ : Setting) (Q : ℕ)
+    → (passes P ts m σ Q ≡ true) ↔ ((lower : List Task) (task : Task) (higher : List Task) → reverse lower ++ (task ∷ higher) ≡ ts → Met P Q (blockingOf m σ lower) task higher)
+unfolding passes
+passes-paper P ts m σ Q = (
+  (λ q lower task higher e. taskPasses-iff P Q (blockingOf m σ lower) task higher .0 (along-iff _ ts .0 q lower task higher e)),
+  (λ h. along-iff _ ts .1 (λ lower task higher e. taskPasses-iff P Q (blockingOf m σ lower) task higher .1 (h lower task higher e))),
+)
+
+-- a greater budget and less blocking meet what a smaller budget and more blocking do
+met-more : (P Q R b c : ℕ) (task : Task) (higher : List Task) → 1 ≤ Q → Q ≤ R → R ≤ P → c ≤ b → Met P Q b task higher → Met P R c task higher
+unfolding needOf
+met-more P Q R b c task higher o l u d (t, from, upto, met) = (t, from, upto, omega (arith, supply-mono-Q P Q R t o l u))
+
+-- the same of a part: ceilings that are no higher block no more
+pub passes-more : (P : ℕ) (ts : List Task) (m : ℕ) (σ τ : Setting) (Q R : ℕ) → 1 ≤ Q → Q ≤ R → R ≤ P
+    → ((l : ℕ) → 1 ≤ l → l ≤ m → τ l ≤ σ l) → passes P ts m σ Q ≡ true → passes P ts m τ R ≡ true
+passes-more P ts m σ τ Q R o l u low q =
+    passes-paper P ts m τ R .1 (λ lower task higher e. met-more P Q R _ _ task higher o l u (blocking-mono m τ σ lower low) (passes-paper P ts m σ Q .0 q lower task higher e))
+
+module _ (P : ℕ) (ts : List Task) (m : ℕ) (σ : Setting) where
+  pub passes-mono-Q : (Q R : ℕ) → 1 ≤ Q → Q ≤ R → R ≤ P → passes P ts m σ Q ≡ true → passes P ts m σ R ≡ true
+  passes-mono-Q Q R o l u q = passes-more P ts m σ σ Q R o l u (λ k a b. le-refl (σ k)) q
+
+  pub budget-iff : (Q : ℕ) → (leastBudget P ts m σ ≡ At Q) ↔ (IsLeast (passes P ts m σ) Q × (Q ≤ P))
+  unfolding leastBudget
+  budget-iff Q = least-iff (passes P ts m σ) P Q
+
+  -- two values settle it
+  pub budget-after : (Q : ℕ) → Q < P → passes P ts m σ Q ≡ false → passes P ts m σ (Q + 1) ≡ true → leastBudget P ts m σ ≡ At (Q + 1)
+  unfolding leastBudget
+  budget-after Q l f t = least-after (passes P ts m σ) P Q passes-mono-Q l f t
+
+  pub budget-one : 1 ≤ P → passes P ts m σ 1 ≡ true → leastBudget P ts m σ ≡ At 1
+  budget-one l t = budget-iff 1 .1 (record { positive = omega arith; passes = t; first = λ v p q. p }, l)
+
+  pub budget-none : passes P ts m σ P ≡ false → leastBudget P ts m σ ≡ Nothing
+  unfolding leastBudget
+  budget-none f = none-rising (passes P ts m σ) P passes-mono-Q f
