@@ -85,16 +85,20 @@ keptAmong-falls cs = inFallingX-falls (those (isKept cs) cs)
 no-worse-refl : (c : Pair) → NoWorse c c
 no-worse-refl c = record { holding = le-refl _; sum = le-refl _ }
 
--- a pair that is not kept has another that is no worse, with Q + 2X smaller
-other : (cs : List Pair) (c : Pair) → isKept cs c ≡ false → (d : Pair) × List·Memᴰ d cs × NoWorse d c × (d .budget + 2 * d .holding < c .budget + 2 * c .holding)
+-- Q + 2X
+abbrev weight : Pair → ℕ
+weight c = c .budget + 2 * c .holding
+
+-- a pair that is not kept has another that is no worse, with a smaller weight
+no-worse-other : (cs : List Pair) (c : Pair) → isKept cs c ≡ false → (d : Pair) × List·Memᴰ d cs × NoWorse d c × (weight d < weight c)
 unfolding isKept
-other cs c e =
+no-worse-other cs c e =
     let f = every-not _ cs e in
     let n = or-not-false (samePair (f .0) c) (noWorse (f .0) c) (f .2) in
     let w = noWorse-iff (f .0) c .0 (n .1) in
     (f .0, f .1, w, smaller (f .0) (n .0) w (decLt _ _))
   where
-    smaller : (d : Pair) → samePair d c ≡ false → NoWorse d c → Dec (d .budget + 2 * d .holding < c .budget + 2 * c .holding) → d .budget + 2 * d .holding < c .budget + 2 * c .holding
+    smaller : (d : Pair) → samePair d c ≡ false → NoWorse d c → Dec (weight d < weight c) → weight d < weight c
     smaller d s w (yes l) = l
     smaller d s w (no l) = absurd (false≢true (sym s ∙ samePair-iff d c .1 (pair-same d c (omega arith) (omega arith))))
 
@@ -102,16 +106,16 @@ other cs c e =
 abbrev pub Covered : List Pair → Pair → Type 0
 Covered kept c = (d : Pair) × List·Memᴰ d kept × NoWorse d c
 
-covered-within : (cs : List Pair) (n : ℕ) (c : Pair) → List·Memᴰ c cs → c .budget + 2 * c .holding < n → Covered (keptAmong cs) c
+covered-within : (cs : List Pair) (n : ℕ) (c : Pair) → List·Memᴰ c cs → weight c < n → Covered (keptAmong cs) c
 covered-within cs zero c m l = absurd (omega arith)
 covered-within cs (suc n) c m l = go (λ d k h. covered-within cs n d k (omega arith)) (isKept cs c) refl
   where
-    go : ((d : Pair) → List·Memᴰ d cs → d .budget + 2 * d .holding < c .budget + 2 * c .holding → Covered (keptAmong cs) d) → (b : Bool) → isKept cs c ≡ b → Covered (keptAmong cs) c
+    go : ((d : Pair) → List·Memᴰ d cs → weight d < weight c → Covered (keptAmong cs) d) → (b : Bool) → isKept cs c ≡ b → Covered (keptAmong cs) c
     go ih true e = (c, keptAmong-iff cs c .1 (m, isKept-iff cs c .0 e), no-worse-refl c)
     go ih false e =
-        let o = other cs c e in
+        let o = no-worse-other cs c e in
         let k = ih (o .0) (o .1) (o .3) in
         (k .0, k .1, record { holding = le-trans (k .2 .holding) (o .2 .holding); sum = le-trans (k .2 .sum) (o .2 .sum) })
 
 pub keptAmong-covers : (cs : List Pair) (c : Pair) → List·Memᴰ c cs → Covered (keptAmong cs) c
-keptAmong-covers cs c m = covered-within cs (suc (c .budget + 2 * c .holding)) c m (le-refl _)
+keptAmong-covers cs c m = covered-within cs (suc (weight c)) c m (le-refl _)

@@ -17,7 +17,7 @@ use Rattle.least.specs.Search.{numberOr0}
 use Rattle.least.specs.Lists.{range, those}
 use Rattle.least.proofs.Search.{least-iff, least-unique}
 use Rattle.least.proofs.Lists.{and-iff, range-iff, every-range, those-member, those-passing, smallest-le, smallest-member}
-use Rattle.least.proofs.Greatest.{Reached, greatest-each, greatest-reached}
+use Rattle.least.proofs.Greatest.{ZeroOrReached, greatest-each, greatest-reached}
 use Rattle.task_set.specs.declared.Task.{Task}
 use Rattle.task_set.specs.Tasks.{uses, higher, demandIn, lowestCeiling, greatestHeld, smallestDeadline}
 use Rattle.task_set.specs.Blocking.{Setting}
@@ -107,7 +107,7 @@ module _ (ts : List Task) (m : ℕ) (σ : Setting) (ok : permitted ts m σ ≡ t
   unfolding holdingTimeOf
   holdingTime-one = go (greatest-reached (timeOf ts σ) (range 1 m)) (decLe 1 m)
     where
-      go : (holdingTimeOf ts m σ ≡ 0) ⊎ Reached (timeOf ts σ) (range 1 m) (holdingTimeOf ts m σ) → Dec (1 ≤ m) → OneOrNone
+      go : ZeroOrReached (timeOf ts σ) (range 1 m) (holdingTimeOf ts m σ) → Dec (1 ≤ m) → OneOrNone
       go (inr r) d =
           let k = range-iff 1 m (r .0) .0 (r .1) in
           let n = number-of (r .0) (k .0) (k .1) in
