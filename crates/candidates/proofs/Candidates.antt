@@ -12,11 +12,11 @@ use Rattle.least.proofs.Search.{least-upto, least-iff}
 use Rattle.least.proofs.Lists.{joined-map-iff, no-member}
 use Rattle.task_set.specs.declared.Task.{Task}
 use Rattle.task_set.specs.Blocking.{Setting}
-use Rattle.task_set.proofs.Agree.{Agree}
+use Rattle.task_set.proofs.SettingsAgree.{Agree}
 use Rattle.holding.specs.Holding.{permitted, holdingTimeOf}
-use Rattle.holding.proofs.Agree.{permitted-agree, holdingTime-agree}
+use Rattle.holding.proofs.SettingsAgree.{permitted-agree, holdingTime-agree}
 use Rattle.budget.specs.Budget.{passes, leastBudget}
-use Rattle.budget.proofs.Agree.{leastBudget-agree}
+use Rattle.budget.proofs.SettingsAgree.{leastBudget-agree}
 use Rattle.candidates.specs.declared.Pair.{Pair}
 use Rattle.candidates.specs.Candidates.{pair, pairWith, settings, candidateOf, candidatesIn, keptList}
 use Rattle.candidates.specs.Statement.{Permitted, Candidate, IsKept}

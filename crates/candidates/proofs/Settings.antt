@@ -13,7 +13,7 @@ use Rattle.least.proofs.Lists.{range-iff, joined-map-iff}
 use Rattle.task_set.specs.declared.Task.{Task}
 use Rattle.task_set.specs.Tasks.{lowestCeiling}
 use Rattle.task_set.specs.Blocking.{Setting}
-use Rattle.task_set.proofs.Agree.{Agree}
+use Rattle.task_set.proofs.SettingsAgree.{Agree}
 use Rattle.holding.specs.Holding.{inRange}
 use Rattle.holding.proofs.Holding.{Ranged, inRange-paper}
 use Rattle.candidates.specs.Candidates.{withCeiling, settings}

@@ -1,3 +1,3 @@
 pub mod Demand
 pub mod Blocking
-pub mod Agree
+pub mod SettingsAgree

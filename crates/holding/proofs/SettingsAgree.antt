@@ -12,7 +12,7 @@ use Rattle.least.proofs.Lists.{every-same, map-same}
 use Rattle.task_set.specs.declared.Task.{Task}
 use Rattle.task_set.specs.Tasks.{lowestCeiling}
 use Rattle.task_set.specs.Blocking.{Setting}
-use Rattle.task_set.proofs.Agree.{Agree, agree-in}
+use Rattle.task_set.proofs.SettingsAgree.{Agree, agree-in}
 use Rattle.holding.specs.Holding.{holdingOf, inRange, exists, permitted, holdingTimeOf}
 
 module _ (ts : List Task) (m : ℕ) (σ τ : Setting) (same : Agree m σ τ) where

@@ -7,7 +7,7 @@ use Rattle.least.specs.Search.{leastUpTo}
 use Rattle.least.specs.Lists.{everyAlong}
 use Rattle.task_set.specs.declared.Task.{Task}
 use Rattle.task_set.specs.Blocking.{Setting}
-use Rattle.task_set.proofs.Agree.{Agree, blockingOf-agree}
+use Rattle.task_set.proofs.SettingsAgree.{Agree, blockingOf-agree}
 use Rattle.budget.specs.Budget.{taskPasses, passes, leastBudget}
 
 module _ (P : ℕ) (ts : List Task) (m : ℕ) (σ τ : Setting) (same : Agree m σ τ) where
