@@ -12,7 +12,7 @@ use lib.ListN.{length}
 use Rattle.least.specs.Lists.{every}
 use Rattle.text.specs.Decimal.{isDigit, valueOf, digitsOf}
 use Rattle.text.proofs.Decimal.{FirstDigit, value-digits, digits-digits, digits-first}
-use Rattle.plan_file.specs.Fields.{isNameByte, isName, leadingZero, isNumber}
+use Rattle.fields.specs.Fields.{isNameByte, isName, leadingZero, isNumber}
 
 both : (a b : Bool) → a && b ≡ true → (a ≡ true) × (b ≡ true)
 both true b e = (refl, e)

@@ -1,0 +1,3 @@
+pub mod Records
+pub mod Shapes
+pub mod Cursor

@@ -1,0 +1,53 @@
+-- What one pass over a line finds, by positions in the file.
+--   bytesOf s p    == the bytes of a stretch of the file s
+--   firstLine bs   == the line that bs begins with: the bytes before the first byte 10, and whether there is one
+--   tabsFrom bs at == where the tabs stand among bytes of which the first stands at `at`
+--   firstFive ts   == the first five of some places, and how many there are of them
+--   lineAt s at    == the line that begins at `at`: whether question 2 holds and, if so, where its byte 10 and its first five tabs stand; else zeros
+--   markOf t b i   == the tabs t with one more at i, where b is a tab and there is room for it
+-- Assumes nothing.
+use Prim.Native.Nat.{ℕ, suc, _+_, min}
+use mathlib.Core.Bool.{Bool, true, false, cond, _&&_, _||_}
+use mathlib.Core.List.{List, [], _∷_, _++_}
+use lib.Dec.{eqb, ltb}
+use lib.ListN.{length, take, drop, set}
+use Rattle.least.specs.Lists.{pad}
+use Rattle.text.specs.Bytes.{Line}
+use Rattle.scan.specs.declared.Span.{Span}
+use Rattle.scan.specs.declared.Tabs.{Tabs}
+use Rattle.scan.specs.declared.Scanned.{Scanned}
+use Rattle.scan.specs.Line.{lineIsGood}
+
+unfoldable pub bytesOf : List ℕ → Span → List ℕ
+bytesOf s p = take (p .len) (drop (p .start) s)
+
+unfoldable pub bodyOf : List ℕ → List ℕ
+bodyOf [] = []
+bodyOf (b ∷ bs) = cond (eqb b 10) [] (b ∷ bodyOf bs)
+
+unfoldable pub isEnded : List ℕ → Bool
+isEnded [] = false
+isEnded (b ∷ bs) = eqb b 10 || isEnded bs
+
+abbrev pub firstLine : List ℕ → Line
+firstLine bs = record { body = bodyOf bs; ended = isEnded bs }
+
+unfoldable pub tabsFrom : List ℕ → ℕ → List ℕ
+tabsFrom [] at = []
+tabsFrom (b ∷ bs) at = cond (eqb b 9) (at ∷ []) [] ++ tabsFrom bs (suc at)
+
+unfoldable pub firstFive : List ℕ → Tabs
+firstFive ts = record { count = min 5 (length ts); place = pad 5 0 ts }
+
+unfoldable pub lineAt : List ℕ → ℕ → Scanned
+lineAt s at =
+    let rest = drop at s in
+    cond (lineIsGood (firstLine rest))
+    (record { good = true; end = at + length (bodyOf rest); tabs = firstFive (tabsFrom (bodyOf rest) at) })
+    (record { good = false; end = 0; tabs = firstFive [] })
+
+unfoldable pub markOf : Tabs → ℕ → ℕ → Tabs
+markOf t b i =
+    cond (eqb b 9 && ltb (t .count) 5)
+    (record { count = t .count + 1; place = set (t .place) (t .count) i })
+    t
