@@ -18,7 +18,7 @@ use Rattle.load.specs.Load.{demandOf, loadAt, rowPasses, passesSystem, ratio, b
 use Rattle.load.specs.Weigh.{rowInRange, weighQuestions, weighed, weighOf}
 use Rattle.selection.specs.Selection.{choices, lighter, leastLoaded}
 use Rattle.plan_file.specs.Fields.{isAllowed, lineIsGood, isNameByte, isName, leadingZero, isNumber}
-use Rattle.plan_file.specs.Records.{recordOf, lockMentions, lockNames, partsAfter}
+use Rattle.plan_file.specs.Above.{recordOf, lockMentions, lockNames, partsAfter}
 use Rattle.plan_file.specs.Reading.{isPart, isEnd, allowedHere, recordQuestions, questionsAt, readLines, readFile}
 use Rattle.plan_file.specs.Numbers.{heldUnder, taskIn, locksIn, tasksIn}
 use Rattle.listing.specs.Listing.{ceilingLine, shareLine, shareLines, loadLine, loadShare, listingOf, refusedLine}

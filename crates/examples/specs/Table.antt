@@ -23,7 +23,7 @@ use Rattle.candidates.specs.Candidates.{pair, samePair, candidateOf}
 use Rattle.load.specs.declared.Row.{Row}
 use Rattle.load.specs.Load.{row}
 use Rattle.load.specs.Weigh.{weighOf}
-use Rattle.plan_file.specs.Records.{FilePart, noPart}
+use Rattle.plan_file.specs.Above.{FilePart, noPart}
 use Rattle.plan_file.specs.Fields.{isNumber}
 use Rattle.plan_file.specs.Reading.{readFile}
 use Rattle.plan_file.specs.Numbers.{tasksIn, locksIn}

@@ -1,4 +1,4 @@
-pub mod Fields
-pub mod Records
+pub mod Above
 pub mod Reading
 pub mod Numbers
+pub mod Entries

@@ -8,7 +8,7 @@ use mathlib.Core.List.{List, [], _∷_, map}
 use lib.ListN.{length}
 use Rattle.text.specs.Bytes.{same}
 use Rattle.task_set.specs.declared.Task.{Task}
-use Rattle.plan_file.specs.Records.{FileLock, FileTask, FilePart, lockNames}
+use Rattle.plan_file.specs.Above.{FileLock, FileTask, FilePart, lockNames}
 
 -- how long the lock of this name is held; 0 where it is not among the locks
 unfoldable pub heldUnder : List ℕ → List FileLock → ℕ

@@ -7,11 +7,11 @@
 -- Assumes nothing.
 use Prim.Native.Nat.{ℕ, suc}
 use mathlib.Core.Bool.{Bool, true, false, not, cond, _&&_}
-use mathlib.Core.List.{List, [], _∷_, _++_, map}
+use mathlib.Core.List.{List, [], _∷_, map}
 use lib.Dec.{leb}
 use lib.ListN.{length}
 use Rattle.least.specs.Lists.{isEmpty}
-use Rattle.text.specs.Bytes.{Line, linesOf, fieldsOf, among, distinct}
+use Rattle.text.specs.Bytes.{Line, linesOf, among, mention}
 use Rattle.text.specs.Decimal.{valueOf}
 use Rattle.refusal.specs.declared.Outcome.{Outcome}
 use Rattle.refusal.specs.declared.Outcome.the-variants.{Done, Refused}
@@ -19,9 +19,11 @@ use Rattle.refusal.specs.declared.Refusal.the-variants.{FileTooLong, BadLine, B
 use Rattle.refusal.specs.Limits.{fileLimit, partLimit, taskLimit, lockLimit}
 use Rattle.refusal.specs.Questions.{Question, ask, firstNo, Answer, whenDone}
 use Rattle.refusal.specs.Questions.Answer.{answered, refused}
-use Rattle.plan_file.specs.Fields.{lineIsGood, isName, isNumber}
-use Rattle.plan_file.specs.Records.{Record, recordOf, FilePart, Above, nothingAbove, thisPart, thisTask, lockMentions, after}
-use Rattle.plan_file.specs.Records.Record.{part, task, lock, end, noRecord}
+use Rattle.scan.specs.Line.{lineIsGood}
+use Rattle.fields.specs.Fields.{isName, isNumber}
+use Rattle.records.specs.Records.{Record, recordIn}
+use Rattle.records.specs.Records.Record.{part, task, lock, end, noRecord}
+use Rattle.plan_file.specs.Above.{FileTask, FilePart, Above, nothingAbove, thisPart, thisTask, lockNames, after}
 
 unfoldable pub isPart : Record → Bool
 isPart (part name P) = true
@@ -59,36 +61,55 @@ allowedHere a (lock name c) = notBehindEnd a && taskAbove a
 allowedHere a end = notBehindEnd a && (notBehindPart a && partAbove a)
 allowedHere a noRecord = false
 
--- questions 3 to 9 of the record on line n
-unfoldable pub recordQuestions : ℕ → Above → Record → List Question
-recordQuestions n a (part name P) =
-    ask (Misplaced n) (allowedHere a (part name P))
+-- questions 4 to 9 of a `part` on line n: whether it is allowed here, and the names of the parts above
+unfoldable pub partQuestions : ℕ → Bool → List (List ℕ) → List ℕ → List ℕ → List Question
+partQuestions n allowed parts name P =
+    ask (Misplaced n) allowed
     ∷ ask (BadName n) (isName name)
-    ∷ ask (KnownName n) (not (among name (map (λ p. p .name) (a .parts))))
+    ∷ ask (KnownName n) (not (among name parts))
     ∷ ask (BadNumber n) (isNumber P)
-    ∷ ask (TooMany n) (leb (suc (length (a .parts))) partLimit)
+    ∷ ask (TooMany n) (leb (suc (length parts)) partLimit)
     ∷ []
-recordQuestions n a (task name T C D) =
-    ask (Misplaced n) (allowedHere a (task name T C D))
+
+-- of a `task`: the names of the tasks above in the part
+unfoldable pub taskQuestions : ℕ → Bool → List (List ℕ) → List ℕ → List ℕ → List ℕ → List ℕ → List Question
+taskQuestions n allowed tasks name T C D =
+    ask (Misplaced n) allowed
     ∷ ask (BadName n) (isName name)
-    ∷ ask (KnownName n) (not (among name (map (λ t. t .name) (thisPart a .tasks))))
+    ∷ ask (KnownName n) (not (among name tasks))
     ∷ ask (BadNumber n) (isNumber T && (isNumber C && isNumber D))
     ∷ ask (BadOrder n) (leb (valueOf C) (valueOf D) && leb (valueOf D) (valueOf T))
-    ∷ ask (TooMany n) (leb (suc (length (thisPart a .tasks))) taskLimit)
+    ∷ ask (TooMany n) (leb (suc (length tasks)) taskLimit)
     ∷ []
-recordQuestions n a (lock name c) =
-    ask (Misplaced n) (allowedHere a (lock name c))
+
+-- of a `lock`: whether its task has it already, the different lock names of the part, and the task's C
+unfoldable pub lockQuestions : ℕ → Bool → Bool → List (List ℕ) → ℕ → List ℕ → List ℕ → List Question
+lockQuestions n allowed known locks C name c =
+    ask (Misplaced n) allowed
     ∷ ask (BadName n) (isName name)
-    ∷ ask (KnownName n) (not (among name (map (λ l. l .name) (thisTask a .locks))))
+    ∷ ask (KnownName n) (not known)
     ∷ ask (BadNumber n) (isNumber c)
-    ∷ ask (BadOrder n) (leb (valueOf c) (thisTask a .cost))
-    ∷ ask (TooMany n) (leb (length (distinct (lockMentions (thisPart a) ++ (name ∷ [])))) lockLimit)
+    ∷ ask (BadOrder n) (leb (valueOf c) C)
+    ∷ ask (TooMany n) (leb (length (mention locks name)) lockLimit)
     ∷ []
+
+abbrev pub partNames : List FilePart → List (List ℕ)
+partNames ps = map (λ p. p .name) ps
+
+abbrev pub taskNames : FilePart → List (List ℕ)
+taskNames p = map (λ t. t .name) (p .tasks)
+
+abbrev pub locksOf : FileTask → List (List ℕ)
+locksOf t = map (λ l. l .name) (t .locks)
+
+-- questions 3 to 9 of the record on line n
+unfoldable pub recordQuestions : ℕ → Above → Record → List Question
+recordQuestions n a (part name P) = partQuestions n (allowedHere a (part name P)) (partNames (a .parts)) name P
+recordQuestions n a (task name T C D) = taskQuestions n (allowedHere a (task name T C D)) (taskNames (thisPart a)) name T C D
+recordQuestions n a (lock name c) =
+    lockQuestions n (allowedHere a (lock name c)) (among name (locksOf (thisTask a))) (lockNames (thisPart a)) (thisTask a .cost) name c
 recordQuestions n a end = ask (Misplaced n) (allowedHere a end) ∷ []
 recordQuestions n a noRecord = ask (BadRecord n) false ∷ []
-
-abbrev pub recordIn : Line → Record
-recordIn l = recordOf (fieldsOf (l .body))
 
 unfoldable pub questionsAt : ℕ → Above → Line → List Question
 questionsAt n a l = ask (BadLine n) (lineIsGood l) ∷ recordQuestions n a (recordIn l)

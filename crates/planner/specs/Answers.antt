@@ -23,7 +23,7 @@ use Rattle.candidates.specs.Candidates.{keptAnswer}
 use Rattle.load.specs.declared.Row.{Row}
 use Rattle.load.specs.Load.{boundsOf, passesSystem}
 use Rattle.selection.specs.Selection.{choices, leastLoaded}
-use Rattle.plan_file.specs.Records.{FilePart, noPart}
+use Rattle.plan_file.specs.Above.{FilePart, noPart}
 use Rattle.plan_file.specs.Reading.{readFile}
 use Rattle.listing.specs.Listing.{listingOf}
 use Rattle.planner.specs.declared.Planned.{Planned}

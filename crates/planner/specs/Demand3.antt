@@ -27,7 +27,7 @@ use Rattle.budget.specs.Budget.{passes}
 use Rattle.candidates.specs.Statement.{Permitted, IsKept}
 use Rattle.load.specs.declared.Row.{Row}
 use Rattle.load.specs.Load.{row, boundsOf, loadOf, passesSystem}
-use Rattle.plan_file.specs.Records.{FilePart, noPart, lockNames}
+use Rattle.plan_file.specs.Above.{FilePart, noPart, lockNames}
 use Rattle.plan_file.specs.Numbers.{locksIn, tasksIn}
 use Rattle.plan_file.specs.Reading.{readFile}
 use Rattle.listing.specs.Listing.{Ceiling, Share, listingOf}

@@ -12,7 +12,7 @@ use Rattle.candidates.specs.declared.Pair.{Pair}
 use Rattle.candidates.specs.Candidates.{keptList, shownCeiling}
 use Rattle.load.specs.declared.Row.{Row}
 use Rattle.load.specs.Load.{row}
-use Rattle.plan_file.specs.Records.{FilePart, lockNames}
+use Rattle.plan_file.specs.Above.{FilePart, lockNames}
 use Rattle.plan_file.specs.Numbers.{locksIn, tasksIn}
 use Rattle.listing.specs.Listing.{Ceiling, Share}
 

@@ -1,6 +1,4 @@
--- The records of a file, and what the lines above one say.
---   Record      == one of the four records with its fields, as bytes; or none of them
---   recordOf fs == question 3: which record the fields of a line are
+-- What the lines above one say.
 --   FileLock, FileTask, FilePart == a lock, a task, a part as the file gives them: names are bytes, tasks and locks stand in file order
 --   Above       == what the lines above say: the parts so far, and the record directly above (`noRecord` above line 1)
 --   thisPart a  == the part that the next `task` or `lock` line belongs to
@@ -9,29 +7,12 @@
 --   after a r   == what the lines up to the record r say
 -- Assumes nothing.
 use Prim.Native.Nat.{ℕ}
-use mathlib.Core.Bool.{Bool, true, false, cond}
 use mathlib.Core.List.{List, [], _∷_, _++_, map}
 use Rattle.least.specs.Lists.{joined, lastOr, onLast}
-use Rattle.text.specs.Bytes.{bytes, same, distinct}
+use Rattle.text.specs.Bytes.{distinct}
 use Rattle.text.specs.Decimal.{valueOf}
-
-pub data Record : Type 0 where
-  part : (name period : List ℕ) → Record
-  task : (name separation cost deadline : List ℕ) → Record
-  lock : (name held : List ℕ) → Record
-  end : Record
-  noRecord : Record
-
-unfoldable pub recordOf : List (List ℕ) → Record
-recordOf [] = noRecord
-recordOf (word ∷ []) = cond (same word (bytes "end")) end noRecord
-recordOf (word ∷ a ∷ []) = noRecord
-recordOf (word ∷ a ∷ b ∷ []) =
-    cond (same word (bytes "part")) (part a b)
-    (cond (same word (bytes "lock")) (lock a b) noRecord)
-recordOf (word ∷ a ∷ b ∷ c ∷ []) = noRecord
-recordOf (word ∷ a ∷ b ∷ c ∷ d ∷ []) = cond (same word (bytes "task")) (task a b c d) noRecord
-recordOf (word ∷ a ∷ b ∷ c ∷ d ∷ e ∷ fs) = noRecord
+use Rattle.records.specs.Records.{Record}
+use Rattle.records.specs.Records.Record.{part, task, lock, end, noRecord}
 
 pub record FileLock : Type 0 where
   pub name : List ℕ

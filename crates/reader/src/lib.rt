@@ -1,0 +1,155 @@
+// The reader of a plan file: questions 1 to 9, line by line.
+use plan_file::Entry;
+use plan_file::Names;
+use records::Cursor;
+use records::Next;
+use refusal::Outcome;
+use refusal::Refusal;
+use scan::Span;
+use task_set::Part;
+use task_set::Task;
+ghost use mathlib.Core.Path.{_≡_};
+ghost use Rattle.plan_file.specs.Reading.{readFile};
+ghost use Rattle.reader.specs.Reader.{noPartRead, closedPart, refusedFile, heldAt, fileOf, numbered};
+
+// A part that was read: its name and the names of its locks as stretches of the file, and its numbers.
+pub struct PartRead {
+    pub name: Span,
+    pub part: Part,
+    pub locks: Names,
+}
+
+// What was read: the parts of the file and their count, or the refusal.
+pub struct PlanFile {
+    pub outcome: Outcome,
+    pub parts: [PartRead; 16],
+    pub count: usize,
+}
+
+const FILE_LIMIT: usize = 32768;
+
+// A part with all that was read of it.
+fn closed_part(name: Span, period: u64, tasks: [Task; 16], count: usize, locks: Names) -> PartRead
+    ensures { λ r. ⌜ r ≡ closedPart name period tasks count locks ⌝ }
+{
+    PartRead {
+        name,
+        part: Part {
+            period,
+            tasks,
+            count,
+            locks: locks.count,
+        },
+        locks,
+    }
+}
+
+fn no_part() -> PartRead
+    ensures { λ r. ⌜ r ≡ noPartRead ⌝ }
+{
+    let none = plan_file::no_task();
+    let names = plan_file::no_names();
+    closed_part(Span { start: 0, len: 0 }, 0, [none; 16], 0, names)
+}
+
+fn refused_file(r: Refusal) -> PlanFile
+    ensures { λ x. ⌜ x ≡ refusedFile r ⌝ }
+{
+    let none = no_part();
+    PlanFile {
+        outcome: Outcome::Refused(r),
+        parts: [none; 16],
+        count: 0,
+    }
+}
+
+// A task that holds its part's lock at the place j for c ticks.
+fn held_at(task: Task, j: usize, c: u64) -> Task
+    requires { ⌜ j < 8 ⌝ }
+    ensures { λ r. ⌜ r ≡ heldAt task j c ⌝ }
+{
+    let mut t = task;
+    t.uses[j] = c;
+    t
+}
+
+pub fn read_file(s: &[u8]) -> PlanFile
+    ensures { λ r. ⌜ fileOf (now (s .entry)) r ≡ numbered (readFile (now (s .entry))) ⌝ }
+{
+    if FILE_LIMIT < s.len() {
+        return refused_file(Refusal::FileTooLong);
+    }
+    let mut c = Cursor::new();
+    let mut seen = plan_file::none_seen();
+    let no_one = plan_file::no_task();
+    let nothing = no_part();
+    let mut all = [nothing; 16];
+    let mut open = 0;
+    let mut name = Span { start: 0, len: 0 };
+    let mut period = 0;
+    let mut tasks = [no_one; 16];
+    loop {
+        let line = c.line;
+        match c.next(s) {
+            Next::Over => {
+                let names = seen.parts;
+                if seen.ended {
+                    return PlanFile {
+                        outcome: Outcome::Done,
+                        parts: all,
+                        count: names.count,
+                    };
+                }
+                return refused_file(Refusal::Misplaced(line));
+            }
+            Next::Broken => {
+                return refused_file(Refusal::BadLine(line));
+            }
+            Next::Record(shape, next) => {
+                let ts = seen.tasks;
+                let ls = seen.locks;
+                let n = ts.count;
+                match plan_file::entry_at(s, line, seen, shape) {
+                    Entry::Refused(r) => {
+                        return refused_file(r);
+                    }
+                    Entry::Part(new_name, new_period) => {
+                        let ps = seen.parts;
+                        let done = closed_part(name, period, tasks, n, ls);
+                        all[open] = done;
+                        open = ps.count;
+                        name = new_name;
+                        period = new_period;
+                        tasks = [no_one; 16];
+                        seen = plan_file::seen_part(seen, new_name);
+                        c = next;
+                    }
+                    Entry::Task(task_name, separation, cost, deadline) => {
+                        let task = Task {
+                            separation,
+                            cost,
+                            deadline,
+                            uses: [0; 8],
+                        };
+                        tasks[n] = task;
+                        seen = plan_file::seen_task(seen, task_name, task);
+                        c = next;
+                    }
+                    Entry::Lock(lock_name, j, held) => {
+                        let last = seen.last;
+                        let task = held_at(last, j, held);
+                        tasks[n - 1] = task;
+                        seen = plan_file::seen_lock(seen, lock_name, j, task);
+                        c = next;
+                    }
+                    Entry::End => {
+                        let done = closed_part(name, period, tasks, n, ls);
+                        all[open] = done;
+                        seen = plan_file::seen_end(seen);
+                        c = next;
+                    }
+                }
+            }
+        }
+    }
+}
