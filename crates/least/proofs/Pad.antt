@@ -1,0 +1,37 @@
+-- The laws of `pad`: its length, its elements, and what a store and a longer list do to it.
+-- Assumes nothing.
+use Prim.Native.Nat.{ℕ, zero, suc, _≤_, _<_}
+use native.Mathlib.Nat.{le-of-suc-le-suc, not-suc-le-zero}
+use mathlib.Core.Path.{_≡_, refl, ap}
+use mathlib.Core.List.{List, [], _∷_, _++_}
+use lib.ListN.{length, set, getD}
+use Rattle.least.specs.Lists.{pad}
+
+module _ {A : Type 0} where
+  pub length-pad : (k : ℕ) (z : A) (xs : List A) → length (pad k z xs) ≡ k
+  unfolding pad
+  length-pad zero z xs = refl
+  length-pad (suc k) z [] = ap suc (length-pad k z [])
+  length-pad (suc k) z (x ∷ xs) = ap suc (length-pad k z xs)
+
+  -- a store behind the last element is one more element
+  pub set-pad : (k : ℕ) (z : A) (xs : List A) (x : A) → length xs < k → set (pad k z xs) (length xs) x ≡ pad k z (xs ++ x ∷ [])
+  unfolding pad
+  set-pad zero z xs x h = absurd (not-suc-le-zero h)
+  set-pad (suc k) z [] x h = refl
+  set-pad (suc k) z (y ∷ ys) x h = ap (λ (l : List A). y ∷ l) (set-pad k z ys x (le-of-suc-le-suc h))
+
+  -- a full array takes no more
+  pub pad-full : (k : ℕ) (z : A) (xs ys : List A) → k ≤ length xs → pad k z (xs ++ ys) ≡ pad k z xs
+  unfolding pad
+  pad-full zero z xs ys h = refl
+  pad-full (suc k) z [] ys h = absurd (not-suc-le-zero h)
+  pad-full (suc k) z (x ∷ xs) ys h = ap (λ (l : List A). x ∷ l) (pad-full k z xs ys (le-of-suc-le-suc h))
+
+  pub getD-pad : (k : ℕ) (z : A) (xs : List A) (i : ℕ) → i < k → getD (pad k z xs) i z ≡ getD xs i z
+  unfolding pad
+  getD-pad zero z xs i h = absurd (not-suc-le-zero h)
+  getD-pad (suc k) z [] zero h = refl
+  getD-pad (suc k) z [] (suc i) h = getD-pad k z [] i (le-of-suc-le-suc h)
+  getD-pad (suc k) z (x ∷ xs) zero h = refl
+  getD-pad (suc k) z (x ∷ xs) (suc i) h = getD-pad k z xs i (le-of-suc-le-suc h)

@@ -1,0 +1,89 @@
+-- `scan::line_at` meets its contract. The invariant: some tabs ts have been passed, and the line is the one whose rest begins at i.
+-- Assumes nothing.
+use borrow.Author.Needs.{needs}
+use Prim.Native.Nat.{ℕ, _-_}
+use mathlib.Core.Path.{_≡_, _∙_}
+use mathlib.Core.List.{List, []}
+use lib.ListN.{length, drop, getD}
+use Rattle.scan.specs.Scan.{lineAt, firstFive}
+use Rattle.scan.proofs.Scan.{lineFrom, from-start, at-newline, at-forbidden, at-more, at-end, mark-firstFive, with}
+use Rattle.scan.proofs.line_at.Statement.{statement}
+use Rattle.scan.proofs.line_at.Tie as tie
+
+abbrev Inv-loop : tie.InvT-loop
+Inv-loop s at t₀ i₀ t i = (ts : List ℕ) × (t ≡ firstFive ts) × (lineAt s at ≡ lineFrom (drop i s) i ts)
+
+abbrev μ-loop : tie.MeasureT-loop
+μ-loop s at t₀ i₀ t i = length s - i
+
+no-tabs-requires : tie.Need-no-tabs-requires Inv-loop μ-loop
+no-tabs-requires c κs = search needs
+
+loop-holds : tie.Need-loop-holds Inv-loop μ-loop
+loop-holds c = ([], c .no-tabs .ensures, from-start _ _)
+
+shared-slice-read-b : tie.Need-shared-slice-read-b Inv-loop μ-loop
+shared-slice-read-b c = search needs
+
+returns : tie.Need-returns Inv-loop μ-loop
+returns c =
+    let l = c .before .before .before in
+    cc (at-newline (l .before .before .before .args .s .now) (l .loop .i) (l .loop .inv .0) (c .before .before .loop-test .taken) (c .if1 .taken))
+
+is-allowed-requires : tie.Need-is-allowed-requires Inv-loop μ-loop
+is-allowed-requires c κs = search needs
+
+mark-requires : tie.Need-mark-requires Inv-loop μ-loop
+mark-requires c κs = search needs
+
+add-i : tie.Need-add-i Inv-loop μ-loop
+add-i c = search needs
+
+loop-less : tie.Need-loop-less Inv-loop μ-loop
+loop-less c = search needs
+
+loop-again : tie.Need-loop-again Inv-loop μ-loop
+loop-again c =
+    let l = c .before .before .before .before .before .before in
+    let s = l .before .before .before .args .s .now in (
+      with (l .loop .inv .0) (getD s (l .loop .i) 0) (l .loop .i),
+      c .mark .ensures ∙ rw (l .loop .inv .1) (mark-firstFive _ _ _),
+      l .loop .inv .2 ∙ at-more s (l .loop .i) (l .loop .inv .0) (search needs) (c .before .before .before .if1 .left) (cc),
+    )
+
+no-tabs-requires-2 : tie.Need-no-tabs-requires-2 Inv-loop μ-loop
+no-tabs-requires-2 c κs = search needs
+
+returns-2 : tie.Need-returns-2 Inv-loop μ-loop
+returns-2 c =
+    let l = c .before .before .before .before .before .before in
+    let s = l .before .before .before .args .s .now in
+    cc (at-forbidden s (l .loop .i) (l .loop .inv .0) (search needs) (c .before .before .before .if1 .left) (cc))
+
+no-tabs-requires-3 : tie.Need-no-tabs-requires-3 Inv-loop μ-loop
+no-tabs-requires-3 c κs = search needs
+
+returns-3 : tie.Need-returns-3 Inv-loop μ-loop
+returns-3 c =
+    let l = c .before .before in
+    cc (at-end (l .before .before .before .args .s .now) (l .loop .i) (l .loop .inv .0) (c .before .loop-test .left))
+
+pub line-at-spec : {M : Type 1} → statement M
+line-at-spec =
+    tie.close
+    (tie.spec
+    Inv-loop
+    μ-loop
+    no-tabs-requires
+    loop-holds
+    shared-slice-read-b
+    returns
+    is-allowed-requires
+    mark-requires
+    add-i
+    loop-less
+    loop-again
+    no-tabs-requires-2
+    returns-2
+    no-tabs-requires-3
+    returns-3)
