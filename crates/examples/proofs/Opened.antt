@@ -6,7 +6,6 @@ use Rattle.least.specs.Lists.{sum, greatest, smallest, countFrom, range, isEmpt
 use Rattle.least.specs.Fraction.{lesser, greater, leastOver, greatestOf}
 use Rattle.text.specs.Bytes.{bytes, same, among, mention, distinctAfter, intoLine, linesOf, intoField, fieldsOf, lineOf}
 use Rattle.text.specs.Decimal.{isDigit, valueAfter, digitsWithin, digitsOf}
-use Rattle.refusal.specs.Number.{refusalNumber, refusalPlace, numberOf, placeOf}
 use Rattle.refusal.specs.Questions.{firstNo, outcomeOf, whenAnswered, whenDone}
 use Rattle.supply.specs.Supply.{roundOf, supplyAt, supplyOf}
 use Rattle.task_set.specs.Tasks.{heldFor, demandIn, lowestCeiling, greatestHeld, smallestDeadline}
@@ -17,9 +16,11 @@ use Rattle.candidates.specs.Candidates.{settings, candidateOf, candidatesIn, is
 use Rattle.load.specs.Load.{demandOf, loadAt, rowPasses, passesSystem, ratio, boundOf, boundsOf, loadOf, loadRow}
 use Rattle.load.specs.Weigh.{rowInRange, weighQuestions, weighed, weighOf}
 use Rattle.selection.specs.Selection.{choices, lighter, leastLoaded}
-use Rattle.plan_file.specs.Fields.{isAllowed, lineIsGood, isNameByte, isName, leadingZero, isNumber}
-use Rattle.plan_file.specs.Above.{recordOf, lockMentions, lockNames, partsAfter}
-use Rattle.plan_file.specs.Reading.{isPart, isEnd, allowedHere, recordQuestions, questionsAt, readLines, readFile}
+use Rattle.scan.specs.Line.{isAllowed, lineIsGood}
+use Rattle.fields.specs.Fields.{isNameByte, isName, leadingZero, isNumber}
+use Rattle.records.specs.Records.{recordOf}
+use Rattle.plan_file.specs.Above.{lockMentions, lockNames, partsAfter}
+use Rattle.plan_file.specs.Reading.{isPart, isEnd, allowedHere, partQuestions, taskQuestions, lockQuestions, recordQuestions, questionsAt, readLines, readFile}
 use Rattle.plan_file.specs.Numbers.{heldUnder, taskIn, locksIn, tasksIn}
 use Rattle.listing.specs.Listing.{ceilingLine, shareLine, shareLines, loadLine, loadShare, listingOf, refusedLine}
 use Rattle.planner.specs.Parts.{keptPairs, keptRows, ceilingsFrom, shareOf, sharesOf}
@@ -28,5 +29,5 @@ use Rattle.examples.specs.Files.{fileA, listingA, cardAt, listingC, list
 use Rattle.examples.specs.Table.{partsIn, isOn}
 
 unfoldable pub opened : Unit {0}
-unfolding ceilDiv leastFrom anyFrom numberOr0 sum greatest smallest countFrom range isEmpty nthOr every some those joined numbersFrom firstFrom lastOr onLast pad everyBehind behind lesser greater leastOver greatestOf bytes same among mention distinctAfter intoLine linesOf intoField fieldsOf lineOf isDigit valueAfter digitsWithin digitsOf refusalNumber refusalPlace numberOf placeOf firstNo outcomeOf whenAnswered whenDone roundOf supplyAt supplyOf heldFor demandIn lowestCeiling greatestHeld smallestDeadline blockedBy blockingOf needOf held holdingOf inRange exists permitted holdingTimeOf taskPasses passes leastBudget settings candidateOf candidatesIn isKept insertByX inFallingX keptAmong keptList keptAnswer shownCeiling demandOf loadAt rowPasses passesSystem ratio boundOf boundsOf loadOf loadRow rowInRange weighQuestions weighed weighOf choices lighter leastLoaded isAllowed lineIsGood isNameByte isName leadingZero isNumber recordOf lockMentions lockNames partsAfter isPart isEnd allowedHere recordQuestions questionsAt readLines readFile heldUnder taskIn locksIn tasksIn ceilingLine shareLine shareLines loadLine loadShare listingOf refusedLine keptPairs keptRows ceilingsFrom shareOf sharesOf planRows planText planQuestions planParts planOf candidatesOf nameOf supplyAnswer planned bufferAfter candidateList nameBytes supplied fileA listingA cardAt listingC listingD fileF onePart listingI partsIn isOn
+unfolding ceilDiv leastFrom anyFrom numberOr0 sum greatest smallest countFrom range isEmpty nthOr every some those joined numbersFrom firstFrom lastOr onLast pad everyBehind behind lesser greater leastOver greatestOf bytes same among mention distinctAfter intoLine linesOf intoField fieldsOf lineOf isDigit valueAfter digitsWithin digitsOf firstNo outcomeOf whenAnswered whenDone roundOf supplyAt supplyOf heldFor demandIn lowestCeiling greatestHeld smallestDeadline blockedBy blockingOf needOf held holdingOf inRange exists permitted holdingTimeOf taskPasses passes leastBudget settings candidateOf candidatesIn isKept insertByX inFallingX keptAmong keptList keptAnswer shownCeiling demandOf loadAt rowPasses passesSystem ratio boundOf boundsOf loadOf loadRow rowInRange weighQuestions weighed weighOf choices lighter leastLoaded isAllowed lineIsGood isNameByte isName leadingZero isNumber recordOf lockMentions lockNames partsAfter isPart isEnd allowedHere partQuestions taskQuestions lockQuestions recordQuestions questionsAt readLines readFile heldUnder taskIn locksIn tasksIn ceilingLine shareLine shareLines loadLine loadShare listingOf refusedLine keptPairs keptRows ceilingsFrom shareOf sharesOf planRows planText planQuestions planParts planOf candidatesOf nameOf supplyAnswer planned bufferAfter candidateList nameBytes supplied fileA listingA cardAt listingC listingD fileF onePart listingI partsIn isOn
 opened = tt

@@ -24,7 +24,7 @@ use Rattle.load.specs.declared.Row.{Row}
 use Rattle.load.specs.Load.{row}
 use Rattle.load.specs.Weigh.{weighOf}
 use Rattle.plan_file.specs.Above.{FilePart, noPart}
-use Rattle.plan_file.specs.Fields.{isNumber}
+use Rattle.fields.specs.Fields.{isNumber}
 use Rattle.plan_file.specs.Reading.{readFile}
 use Rattle.plan_file.specs.Numbers.{tasksIn, locksIn}
 use Rattle.planner.specs.Answers.{planOf, candidatesOf, supplyAnswer}

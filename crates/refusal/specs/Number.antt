@@ -9,7 +9,7 @@ use Rattle.refusal.specs.declared.Refusal.the-variants.{FileTooLong, Bad
 use Rattle.refusal.specs.declared.Outcome.{Outcome}
 use Rattle.refusal.specs.declared.Outcome.the-variants.{Done, Refused}
 
-unfoldable pub refusalNumber : Refusal → ℕ
+abbrev pub refusalNumber : Refusal → ℕ
 refusalNumber FileTooLong = 1
 refusalNumber (BadLine line) = 2
 refusalNumber (BadRecord line) = 3
@@ -25,7 +25,7 @@ refusalNumber (BadHandSet place) = 12
 refusalNumber (NoTime row) = 13
 refusalNumber NoRoom = 14
 
-unfoldable pub refusalPlace : Refusal → ℕ
+abbrev pub refusalPlace : Refusal → ℕ
 refusalPlace FileTooLong = 0
 refusalPlace (BadLine line) = line
 refusalPlace (BadRecord line) = line
@@ -41,10 +41,10 @@ refusalPlace (BadHandSet place) = place
 refusalPlace (NoTime row) = row
 refusalPlace NoRoom = 0
 
-unfoldable pub numberOf : Outcome → ℕ
+abbrev pub numberOf : Outcome → ℕ
 numberOf Done = 0
 numberOf (Refused r) = refusalNumber r
 
-unfoldable pub placeOf : Outcome → ℕ
+abbrev pub placeOf : Outcome → ℕ
 placeOf Done = 0
 placeOf (Refused r) = refusalPlace r

@@ -1,4 +1,6 @@
 // What an operation answers besides its numbers: done, or one of the fourteen refusals with its place.
+ghost use mathlib.Core.Path.{_≡_};
+ghost use Rattle.refusal.specs.Number.{refusalNumber, refusalPlace, numberOf, placeOf};
 
 // A refusal by its question, with the place where the paper gives one.
 pub enum Refusal {
@@ -35,4 +37,66 @@ pub enum Refusal {
 pub enum Outcome {
     Done,
     Refused(Refusal),
+}
+
+fn refusal_number(r: Refusal) -> u64
+    ensures { λ n. ⌜ n ≡ refusalNumber r ⌝ }
+{
+    match r {
+        Refusal::FileTooLong => 1,
+        Refusal::BadLine(_) => 2,
+        Refusal::BadRecord(_) => 3,
+        Refusal::Misplaced(_) => 4,
+        Refusal::BadName(_) => 5,
+        Refusal::KnownName(_) => 6,
+        Refusal::BadNumber(_) => 7,
+        Refusal::BadOrder(_) => 8,
+        Refusal::TooMany(_) => 9,
+        Refusal::NoBudget(_) => 10,
+        Refusal::NoChoice => 11,
+        Refusal::BadHandSet(_) => 12,
+        Refusal::NoTime(_) => 13,
+        Refusal::NoRoom => 14,
+    }
+}
+
+fn refusal_place(r: Refusal) -> u64
+    ensures { λ n. ⌜ n ≡ refusalPlace r ⌝ }
+{
+    match r {
+        Refusal::FileTooLong => 0,
+        Refusal::BadLine(line) => line,
+        Refusal::BadRecord(line) => line,
+        Refusal::Misplaced(line) => line,
+        Refusal::BadName(line) => line,
+        Refusal::KnownName(line) => line,
+        Refusal::BadNumber(line) => line,
+        Refusal::BadOrder(line) => line,
+        Refusal::TooMany(line) => line,
+        Refusal::NoBudget(part) => part,
+        Refusal::NoChoice => 0,
+        Refusal::BadHandSet(place) => place,
+        Refusal::NoTime(row) => row,
+        Refusal::NoRoom => 0,
+    }
+}
+
+// The number of an answer: 0, or that of its refusal.
+pub fn number(o: Outcome) -> u64
+    ensures { λ n. ⌜ n ≡ numberOf o ⌝ }
+{
+    match o {
+        Outcome::Done => 0,
+        Outcome::Refused(r) => refusal_number(r),
+    }
+}
+
+// The place of an answer: 0, or that of its refusal.
+pub fn place(o: Outcome) -> u64
+    ensures { λ n. ⌜ n ≡ placeOf o ⌝ }
+{
+    match o {
+        Outcome::Done => 0,
+        Outcome::Refused(r) => refusal_place(r),
+    }
 }
