@@ -3,9 +3,11 @@
 --   numbersOf p == that of a part of the file;  numbered a == of every part of a readable file
 --   partOf s r  == that of the struct `PartRead`, whose names are stretches of the file s
 --   fileOf s f  == what the struct `PlanFile` says: the parts that it holds, or the refusal
+--   ReadIs s f  == f is what the file s says: its parts, or the refusal of the first question among 1 to 9 with a no
 -- The one place where counts and unused places of these structs occur.
 -- Assumes nothing.
-use Prim.Native.Nat.{ℕ}
+use Prim.Native.Nat.{ℕ, _≤_}
+use mathlib.Core.Path.{_≡_}
 use mathlib.Core.List.{List, [], map}
 use lib.ListN.{take, set}
 use Rattle.least.specs.Lists.{pad}
@@ -20,6 +22,7 @@ use Rattle.task_set.specs.declared.Task.{Task}
 use Rattle.task_set.specs.Tasks.{tasksOf}
 use Rattle.plan_file.specs.declared.Names.{Names}
 use Rattle.plan_file.specs.Above.{FilePart, lockNames}
+use Rattle.plan_file.specs.Reading.{readFile}
 use Rattle.plan_file.specs.Numbers.{tasksIn}
 use Rattle.plan_file.specs.Entries.{noSpan, noNames, noTaskRead, namesOf}
 use Rattle.reader.specs.declared.PartRead.{PartRead}
@@ -47,6 +50,10 @@ answerOf (Refused r) ps = refused r
 
 unfoldable pub fileOf : List ℕ → PlanFile → Answer (List ReadPart)
 fileOf s f = answerOf (f .outcome) (map (partOf s) (take (f .count) (f .parts)))
+
+pub record ReadIs (s : List ℕ) (f : PlanFile) : Type 0 where
+  pub value : fileOf s f ≡ numbered (readFile s)
+  pub few : f .count ≤ 16
 
 -- what the code makes: a part with all that was read of it, a refusal, a task that holds the lock at place j
 unfoldable pub closedPart : Span → ℕ → List Task → ℕ → Names → PartRead

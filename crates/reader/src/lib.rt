@@ -9,8 +9,7 @@ use scan::Span;
 use task_set::Part;
 use task_set::Task;
 ghost use mathlib.Core.Path.{_≡_};
-ghost use Rattle.plan_file.specs.Reading.{readFile};
-ghost use Rattle.reader.specs.Reader.{noPartRead, closedPart, refusedFile, heldAt, fileOf, numbered};
+ghost use Rattle.reader.specs.Reader.{noPartRead, closedPart, refusedFile, heldAt, ReadIs};
 
 // A part that was read: its name and the names of its locks as stretches of the file, and its numbers.
 pub struct PartRead {
@@ -74,7 +73,7 @@ fn held_at(task: Task, j: usize, c: u64) -> Task
 }
 
 pub fn read_file(s: &[u8]) -> PlanFile
-    ensures { λ r. ⌜ fileOf (now (s .entry)) r ≡ numbered (readFile (now (s .entry))) ⌝ }
+    ensures { λ r. ⌜ ReadIs (now (s .entry)) r ⌝ }
 {
     if FILE_LIMIT < s.len() {
         return refused_file(Refusal::FileTooLong);
