@@ -1,3 +1,4 @@
+-- `records::end_shape` meets its contract.
 -- Assumes nothing.
 use Rattle.records.specs.Shapes.{endShape}
 use borrow.Author.Tests.{eq-eqb, ne-eqb}

@@ -1,3 +1,4 @@
+-- `records::lock_shape` meets its contract.
 -- Assumes nothing.
 use Rattle.records.specs.Shapes.{lockShape}
 use borrow.Author.Tests.{eq-eqb, ne-eqb}

@@ -1,3 +1,4 @@
+-- `records::part_shape` meets its contract.
 -- Assumes nothing.
 use Rattle.records.specs.Shapes.{partShape}
 use borrow.Author.Tests.{eq-eqb, ne-eqb}

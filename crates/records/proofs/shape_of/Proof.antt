@@ -1,3 +1,4 @@
+-- `records::shape_of` meets its contract: each arm is a case of `shapeOf`.
 -- Assumes nothing.
 use Rattle.records.specs.Shapes.{shapeOf}
 use borrow.Author.Needs.{needs}

@@ -1,3 +1,4 @@
+-- `records::task_shape` meets its contract.
 -- Assumes nothing.
 use Rattle.records.specs.Shapes.{taskShape}
 use borrow.Author.Tests.{eq-eqb, ne-eqb}

@@ -1,3 +1,4 @@
+-- `records::word_of` meets its contract: at each `return` the comparisons that led there decide `wordOf`.
 -- Assumes nothing.
 use Rattle.records.specs.Shapes.{wordOf}
 use mathlib.Core.Path.{sym, _∙_}
@@ -24,7 +25,9 @@ same-bytes-requires-2 c κs = search needs
 
 returns-2 : tie.Need-returns-2
 unfolding wordOf bytes
-returns-2 c = simp (sym (c .before .same-bytes2 .ensures) ∙ c .if2 .taken, sym (c .before .before .before .before .same-bytes .ensures) ∙ c .before .before .before .if1 .left)
+returns-2 c =
+    let p = c .before .before .before in
+    simp (sym (c .before .same-bytes2 .ensures) ∙ c .if2 .taken, sym (p .before .same-bytes .ensures) ∙ p .if1 .left)
 
 slice-aggregate-same-bytes-3 : tie.Need-slice-aggregate-same-bytes-3
 slice-aggregate-same-bytes-3 c = search needs
@@ -34,7 +37,10 @@ same-bytes-requires-3 c κs = search needs
 
 returns-3 : tie.Need-returns-3
 unfolding wordOf bytes
-returns-3 c = simp (sym (c .before .same-bytes3 .ensures) ∙ c .if3 .taken, sym (c .before .before .before .before .same-bytes2 .ensures) ∙ c .before .before .before .if2 .left, sym (c .before .before .before .before .before .before .before .same-bytes .ensures) ∙ c .before .before .before .before .before .before .if1 .left)
+returns-3 c =
+    let t = c .before .before .before in
+    let p = t .before .before .before in
+    simp (sym (c .before .same-bytes3 .ensures) ∙ c .if3 .taken, sym (t .before .same-bytes2 .ensures) ∙ t .if2 .left, sym (p .before .same-bytes .ensures) ∙ p .if1 .left)
 
 slice-aggregate-same-bytes-4 : tie.Need-slice-aggregate-same-bytes-4
 slice-aggregate-same-bytes-4 c = search needs
@@ -44,11 +50,19 @@ same-bytes-requires-4 c κs = search needs
 
 returns-4 : tie.Need-returns-4
 unfolding wordOf bytes
-returns-4 c = simp (sym (c .before .same-bytes4 .ensures) ∙ c .if4 .taken, sym (c .before .before .before .before .same-bytes3 .ensures) ∙ c .before .before .before .if3 .left, sym (c .before .before .before .before .before .before .before .same-bytes2 .ensures) ∙ c .before .before .before .before .before .before .if2 .left, sym (c .before .before .before .before .before .before .before .before .before .before .same-bytes .ensures) ∙ c .before .before .before .before .before .before .before .before .before .if1 .left)
+returns-4 c =
+    let l = c .before .before .before in
+    let t = l .before .before .before in
+    let p = t .before .before .before in
+    simp (sym (c .before .same-bytes4 .ensures) ∙ c .if4 .taken, sym (l .before .same-bytes3 .ensures) ∙ l .if3 .left, sym (t .before .same-bytes2 .ensures) ∙ t .if2 .left, sym (p .before .same-bytes .ensures) ∙ p .if1 .left)
 
 returns-5 : tie.Need-returns-5
 unfolding wordOf bytes
-returns-5 c = simp (sym (c .before .same-bytes4 .ensures) ∙ c .if4 .left, sym (c .before .before .before .before .same-bytes3 .ensures) ∙ c .before .before .before .if3 .left, sym (c .before .before .before .before .before .before .before .same-bytes2 .ensures) ∙ c .before .before .before .before .before .before .if2 .left, sym (c .before .before .before .before .before .before .before .before .before .before .same-bytes .ensures) ∙ c .before .before .before .before .before .before .before .before .before .if1 .left)
+returns-5 c =
+    let l = c .before .before .before in
+    let t = l .before .before .before in
+    let p = t .before .before .before in
+    simp (sym (c .before .same-bytes4 .ensures) ∙ c .if4 .left, sym (l .before .same-bytes3 .ensures) ∙ l .if3 .left, sym (t .before .same-bytes2 .ensures) ∙ t .if2 .left, sym (p .before .same-bytes .ensures) ∙ p .if1 .left)
 
 pub word-of-spec : {M : Type 1} → statement M
 word-of-spec =
