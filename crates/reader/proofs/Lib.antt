@@ -1,0 +1,4 @@
+pub mod Arrays
+pub mod Stands
+pub mod Reading
+pub mod Turns

@@ -1,0 +1,95 @@
+-- The laws of names: the place of one among others, and how many a struct `Names` holds.
+-- Assumes nothing.
+use Prim.Native.Nat.{ℕ, zero, suc, _+_, _≤_, _<_, compare·suc-suc}
+use native.Mathlib.Nat.{add-zero, add-suc, suc-add}
+use native.Mathlib.Numerals.{add-one}
+use native.Mathlib.Omega.{arith}
+use mathlib.Core.Path.{_≡_, refl, sym, ap, _∙_}
+use mathlib.Core.Bool.{Bool, true, false}
+use mathlib.Core.List.{List, [], _∷_, _++_, map}
+use borrow.Author.Tests.{ltb-true, ltb-false, lt-ltb, le-ltb, le-leb, lt-leb}
+use lib.Dec.{leb, ltb}
+use lib.ListN.{length, take, drop, getD, length-append, length-map, List·getD-map, drop-of-length-le}
+use lib.Seq.{drop-cons, getD-take, length-take-le}
+use Rattle.least.specs.Lists.{some}
+use Rattle.least.proofs.Lists.{some-pass, some-fail}
+use Rattle.text.specs.Bytes.{same, among, mention}
+use Rattle.refusal.specs.Limits.{lockLimit}
+use Rattle.scan.specs.declared.Span.{Span}
+use Rattle.scan.specs.Scan.{bytesOf}
+use Rattle.plan_file.specs.declared.Names.{Names}
+use Rattle.plan_file.specs.Entries.{noSpan, namesOf, FineNames, placeOf}
+
+-- the place of a name that comes first, and of one that comes later
+place-first : (name n : List ℕ) (ns : List (List ℕ)) → same name n ≡ true → placeOf name (n ∷ ns) ≡ 0
+unfolding placeOf
+place-first name n ns e = simp e
+
+place-later : (name n : List ℕ) (ns : List (List ℕ)) → same name n ≡ false → placeOf name (n ∷ ns) ≡ suc (placeOf name ns)
+unfolding placeOf
+place-later name n ns e = simp e
+
+place-none : (name : List ℕ) → placeOf name [] ≡ 0
+unfolding placeOf
+place-none name = refl
+
+pub place-most : (name : List ℕ) (names : List (List ℕ)) → placeOf name names ≤ length names
+place-most name [] = omega (arith, place-none name)
+place-most name (n ∷ ns) = go (same name n) refl (place-most name ns)
+  where
+    go : (b : Bool) → same name n ≡ b → placeOf name ns ≤ length ns → placeOf name (n ∷ ns) ≤ suc (length ns)
+    go true e ih = omega (arith, place-first name n ns e)
+    go false e ih = omega (arith, place-later name n ns e)
+
+-- a name is among others just if its place is below their count
+pub among-place : (name : List ℕ) (names : List (List ℕ)) → among name names ≡ ltb (placeOf name names) (length names)
+unfolding among some
+among-place name [] = sym (le-ltb (placeOf name []) 0 (omega arith))
+among-place name (n ∷ ns) = go (same name n) refl (among-place name ns)
+  where
+    go : (b : Bool) → same name n ≡ b → among name ns ≡ ltb (placeOf name ns) (length ns) → among name (n ∷ ns) ≡ ltb (placeOf name (n ∷ ns)) (suc (length ns))
+    go true e ih = some-pass (same name) n ns e ∙ sym (lt-ltb (placeOf name (n ∷ ns)) (suc (length ns)) (omega (arith, place-first name n ns e)))
+    go false e ih = some-fail (same name) n ns e ∙ ih ∙ rw (place-later name n ns e, compare·suc-suc) refl
+
+mention-known : (names : List (List ℕ)) (name : List ℕ) → among name names ≡ true → mention names name ≡ names
+unfolding mention
+mention-known names name e = simp e
+
+mention-new : (names : List (List ℕ)) (name : List ℕ) → among name names ≡ false → mention names name ≡ names ++ (name ∷ [])
+unfolding mention
+mention-new names name e = simp e
+
+-- question 9 of a lock, by the place of its name
+pub mention-limit : (names : List (List ℕ)) (name : List ℕ) → length names ≤ lockLimit → leb (length (mention names name)) lockLimit ≡ ltb (placeOf name names) lockLimit
+mention-limit names name h = go (among name names) refl
+  where
+    go : (b : Bool) → among name names ≡ b → leb (length (mention names name)) lockLimit ≡ ltb (placeOf name names) lockLimit
+    go true e =
+        let p = ltb-true (placeOf name names) (length names) (sym (among-place name names) ∙ e) in
+        rw (mention-known names name e) (le-leb (length names) lockLimit h ∙ sym (lt-ltb (placeOf name names) lockLimit (omega arith)))
+    go false e =
+        let p = ltb-false (placeOf name names) (length names) (sym (among-place name names) ∙ e) in
+        let q : placeOf name names ≡ length names = omega (arith, place-most name names) in
+        rw (mention-new names name e, length-append, add-one, q) refl
+
+pub names-length : (s : List ℕ) (ns : Names) → FineNames ns → length (namesOf s ns) ≡ ns .count
+unfolding namesOf
+names-length s ns f = simp length-map (length-take-le (ns .count) (ns .span) (omega arith))
+
+-- a search through the first n of some stretches
+module _ (s name : List ℕ) (n : ℕ) (qs : List Span) (h : n ≤ length qs) (i : ℕ) where
+  next-name : i < n → drop i (map (bytesOf s) (take n qs)) ≡ bytesOf s (getD qs i noSpan) ∷ drop (i + 1) (map (bytesOf s) (take n qs))
+  next-name l =
+      let m : i < length (map (bytesOf s) (take n qs)) = simp (length-map, length-take-le n qs h) l in
+      drop-cons (map (bytesOf s) (take n qs)) i (bytesOf s noSpan) m ∙ rw (List·getD-map (bytesOf s) (take n qs) i noSpan, getD-take n qs i noSpan l, add-one)
+
+  pub place-here : i < n → same name (bytesOf s (getD qs i noSpan)) ≡ true → i + placeOf name (drop i (map (bytesOf s) (take n qs))) ≡ i
+  place-here l e = rw (next-name l, place-first name _ _ e) (add-zero i)
+
+  pub place-more : i < n → same name (bytesOf s (getD qs i noSpan)) ≡ false → i + 1 + placeOf name (drop (i + 1) (map (bytesOf s) (take n qs))) ≡ i + placeOf name (drop i (map (bytesOf s) (take n qs)))
+  place-more l e = rw (next-name l, place-later name _ _ e) (omega arith)
+
+  pub place-end : n ≤ i → i + placeOf name (drop i (map (bytesOf s) (take n qs))) ≡ i
+  place-end l =
+      let m : length (map (bytesOf s) (take n qs)) ≤ i = simp (length-map, length-take-le n qs h) l in
+      rw (drop-of-length-le (map (bytesOf s) (take n qs)) m, place-none) (add-zero i)

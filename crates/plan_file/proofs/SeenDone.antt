@@ -1,0 +1,56 @@
+-- What it says that every question of a record has the answer yes.
+-- Assumes nothing.
+use Prim.Native.Nat.{ℕ, zero, suc, _≤_, _<_}
+use mathlib.Core.Path.{_≡_, refl}
+use mathlib.Core.Bool.{Bool, true, false, not, _&&_}
+use mathlib.Core.List.{List, [], _∷_}
+use borrow.Author.Tests.{leb-true, not-true}
+use lib.Dec.{leb}
+use lib.ListN.{length, getD}
+use Rattle.least.specs.Lists.{every}
+use Rattle.least.proofs.Lists.{and-iff}
+use Rattle.text.specs.Bytes.{mention}
+use Rattle.text.specs.Decimal.{isDigit, valueOf}
+use Rattle.refusal.specs.declared.Outcome.the-variants.{Done}
+use Rattle.refusal.specs.declared.Refusal.the-variants.{FileTooLong, Misplaced}
+use Rattle.refusal.specs.Limits.{numberLimit}
+use Rattle.refusal.specs.Questions.{Question, ask, firstNo}
+use Rattle.refusal.proofs.Questions.{allYes, done-iff}
+use Rattle.fields.specs.Fields.{leadingZero, isNumber}
+use Rattle.plan_file.specs.Reading.{partQuestions, taskQuestions, lockQuestions}
+
+pub number-positive : (c : List ℕ) → isNumber c ≡ true → 1 ≤ valueOf c
+unfolding isNumber
+number-positive c e =
+    leb-true 1 (valueOf c) (and-iff (leb 1 (valueOf c)) (leb (valueOf c) numberLimit) .0 (and-iff (every isDigit c && not (leadingZero c)) (leb 1 (valueOf c) && leb (valueOf c) numberLimit) .0 e .1) .0)
+
+-- the answer to each question, counted from 0
+yes-in : (qs : List Question) → allYes qs ≡ true → (k : ℕ) → getD qs k (ask FileTooLong true) .yes ≡ true
+unfolding allYes
+yes-in [] e k = refl
+yes-in (q ∷ qs) e zero = and-iff (q .yes) (allYes qs) .0 e .0
+yes-in (q ∷ qs) e (suc k) = yes-in qs (and-iff (q .yes) (allYes qs) .0 e .1) k
+
+yes-at : (qs : List Question) → firstNo qs ≡ Done → (k : ℕ) → getD qs k (ask FileTooLong true) .yes ≡ true
+yes-at qs e k = yes-in qs (done-iff qs .0 e) k
+
+pub part-done : (n : ℕ) (allowed : Bool) (parts : List (List ℕ)) (name P : List ℕ) → firstNo (partQuestions n allowed parts name P) ≡ Done → (allowed ≡ true) × (length parts < 16)
+unfolding partQuestions
+part-done n allowed parts name P e =
+    let yes-to = yes-at (partQuestions n allowed parts name P) e in
+    (yes-to 0, leb-true (suc (length parts)) 16 (yes-to 4))
+
+pub task-done : (n : ℕ) (allowed : Bool) (tasks : List (List ℕ)) (name T C D : List ℕ) → firstNo (taskQuestions n allowed tasks name T C D) ≡ Done → (allowed ≡ true) × (length tasks < 16)
+unfolding taskQuestions
+task-done n allowed tasks name T C D e =
+    let yes-to = yes-at (taskQuestions n allowed tasks name T C D) e in
+    (yes-to 0, leb-true (suc (length tasks)) 16 (yes-to 5))
+
+pub lock-done : (n : ℕ) (allowed known : Bool) (locks : List (List ℕ)) (C : ℕ) (name c : List ℕ) → firstNo (lockQuestions n allowed known locks C name c) ≡ Done → (allowed ≡ true) × (known ≡ false) × (1 ≤ valueOf c) × (length (mention locks name) ≤ 8)
+unfolding lockQuestions
+lock-done n allowed known locks C name c e =
+    let yes-to = yes-at (lockQuestions n allowed known locks C name c) e in
+    (yes-to 0, not-true known (yes-to 2), number-positive c (yes-to 3), leb-true (length (mention locks name)) 8 (yes-to 5))
+
+pub end-done : (n : ℕ) (allowed : Bool) → firstNo (ask (Misplaced n) allowed ∷ []) ≡ Done → allowed ≡ true
+end-done n allowed e = yes-at (ask (Misplaced n) allowed ∷ []) e 0

@@ -1,0 +1,110 @@
+-- `plan_file::ask_lock` meets its contract: each way through it is a law of `Asking`.
+-- Assumes nothing.
+use Prim.Native.Nat.{_<_}
+use mathlib.Core.Path.{_≡_, refl}
+use mathlib.Core.Bool.{true, false}
+use borrow.Author.Tests.{not-true, not-false}
+use Rattle.scan.specs.Scan.{bytesOf}
+use Rattle.plan_file.specs.Entries.{useAt}
+use Rattle.plan_file.proofs.Asking.{NumberIs, number-is, number-malformed, Named, lock-misplaced, lock-misnamed, lock-known, lock-misnumbered, lock-long, lock-too-many, lock-enters}
+use borrow.Author.Needs.{needs}
+use Rattle.plan_file.proofs.ask_lock.Statement.{statement}
+use Rattle.plan_file.proofs.ask_lock.Tie as tie
+
+abbrev start : tie.Else2 → tie.Start
+start c = c .before .before .before .before .before
+
+named : (c : tie.Else2) → let a = start c .args in Named (a .allowed) (bytesOf (a .s .now) (a .name))
+named c =
+    let t : c .before .is-name .result ≡ true = not-false _ (c .if2 .left) in
+    record { here = not-false (start c .args .allowed) (c .before .before .before .if1 .left); good = cc }
+
+new : (c : tie.Else3) → let a = start (c .before .before .before) .args in useAt (a .last) (c .before .before .place-in .result) < 1
+new c = rw (← c .before .use-at .ensures) (c .if3 .left)
+
+number : (c : tie.After-known-told) → let a = start (c .before .before .before .before .before .before .before .before) .args in NumberIs (bytesOf (a .s .now) (a .held)) (c .before .c .given .0 .0)
+number c = number-is _ _ (cc)
+
+returns : tie.Need-returns
+returns c =
+    let s = c .before .before in
+    lock-misplaced _ _ _ _ _ _ _ (s .pre .0) (s .pre .1) _ refl (not-true (s .args .allowed) (c .if1 .taken))
+
+bytes-requires : tie.Need-bytes-requires
+bytes-requires c κs = search needs
+
+is-name-requires : tie.Need-is-name-requires
+is-name-requires c κs = search needs
+
+returns-2 : tie.Need-returns-2
+returns-2 c =
+    let s = c .before .before .before .before .before in
+    let t : c .before .is-name .result ≡ false = not-true _ (c .if2 .taken) in
+    lock-misnamed _ _ _ _ _ _ _ (s .pre .0) (s .pre .1) _ refl (not-false (s .args .allowed) (c .before .before .before .if1 .left)) (cc)
+
+place-in-requires : tie.Need-place-in-requires
+place-in-requires c κs = search needs
+
+use-at-requires : tie.Need-use-at-requires
+use-at-requires c κs = search needs
+
+returns-3 : tie.Need-returns-3
+returns-3 c =
+    let s = start (c .before .before .before) in
+    lock-known _ _ _ _ _ _ _ (s .pre .0) (s .pre .1) _ (c .before .before .place-in .ensures) (named (c .before .before .before)) (rw (← c .before .use-at .ensures) (c .if3 .taken))
+
+bytes-requires-2 : tie.Need-bytes-requires-2
+bytes-requires-2 c κs = search needs
+
+read-number-requires : tie.Need-read-number-requires
+read-number-requires c κs = search needs
+
+enum-told : tie.Need-enum-told
+enum-told c = search needs
+
+enum-known-c : tie.Need-enum-known-c
+enum-known-c c = search needs
+
+returns-4 : tie.Need-returns-4
+returns-4 c =
+    let d = c .before .before .before .before .before .before .before in
+    let s = start (d .before .before .before) in
+    lock-long _ _ _ _ _ _ _ (s .pre .0) (s .pre .1) _ (d .before .before .place-in .ensures) (named (d .before .before .before)) (new d) (number (c .before .before)) (c .if4 .taken)
+
+returns-5 : tie.Need-returns-5
+returns-5 c =
+    let d = c .before .before .before .before .before .before .before .before in
+    let s = start (d .before .before .before) in
+    lock-too-many _ _ _ _ _ _ _ (s .pre .0) (s .pre .1) _ (d .before .before .place-in .ensures) (named (d .before .before .before)) (new d) (number (c .before .before .before)) (c .before .if4 .left) (c .if5 .taken)
+
+returns-6 : tie.Need-returns-6
+returns-6 c =
+    let d = c .before .before .before .before in
+    let s = start (d .before .before .before) in
+    lock-misnumbered _ _ _ _ _ _ _ (s .pre .0) (s .pre .1) _ (d .before .before .place-in .ensures) (named (d .before .before .before)) (new d) (number-malformed _ (cc))
+
+returns-7 : tie.Need-returns-7
+returns-7 c =
+    let d = c .before .before .before .before .before .before .before .before in
+    let s = start (d .before .before .before) in
+    lock-enters _ _ _ _ _ _ _ (s .pre .0) (s .pre .1) _ (d .before .before .place-in .ensures) (named (d .before .before .before)) (new d) (number (c .before .before .before)) (c .before .if4 .left) (c .if5 .left)
+
+pub ask-lock-spec : {M : Type 1} → statement M
+ask-lock-spec =
+    tie.close
+    (tie.spec
+    returns
+    bytes-requires
+    is-name-requires
+    returns-2
+    place-in-requires
+    use-at-requires
+    returns-3
+    bytes-requires-2
+    read-number-requires
+    enum-told
+    enum-known-c
+    returns-4
+    returns-5
+    returns-6
+    returns-7)

@@ -1,0 +1,108 @@
+-- Each turn of the reader's loop that enters a record keeps the invariant, and stores within the arrays.
+-- Assumes nothing.
+use Prim.Native.Nat.{ℕ, _-_, _≤_, _<_}
+use native.Mathlib.Omega.{arith}
+use mathlib.Core.Path.{_≡_, sym, ap, _∙_, subst, subst₂}
+use mathlib.Core.List.{List, []}
+use lib.ListN.{set}
+use Rattle.least.specs.Lists.{pad}
+use Rattle.scan.specs.declared.Span.{Span}
+use Rattle.scan.specs.Scan.{bytesOf}
+use Rattle.records.specs.declared.Cursor.{Cursor}
+use Rattle.records.specs.declared.Shape.{Shape}
+use Rattle.records.specs.Records.{Record}
+use Rattle.records.specs.Records.Record.{part, task, lock, end}
+use Rattle.records.specs.Cursor.{recordAs, RecordIs}
+use Rattle.task_set.specs.declared.Task.{Task}
+use Rattle.plan_file.specs.declared.Seen.{Seen}
+use Rattle.plan_file.specs.declared.Entry.the-variants.{Part as PartEntry, Task as TaskEntry, Lock as LockEntry, End as EndEntry}
+use Rattle.plan_file.specs.Above.{Above, thisPart, lockNames, after}
+use Rattle.plan_file.specs.Entries.{noTaskRead, placeOf, entryOf, seenPart, seenTask, seenLock, seenEnd}
+use Rattle.plan_file.proofs.SeenNames.{place-mention}
+use Rattle.plan_file.proofs.SeenTasks.{taskWith}
+use Rattle.plan_file.proofs.SeenPart.{storedUse, task-count}
+use Rattle.plan_file.proofs.SeenAbove.{taskOf}
+use Rattle.plan_file.proofs.SeenEntered.{AllDone, PartEntered, TaskEntered, LockEntered, part-entered, task-entered, lock-entered, end-entered}
+use Rattle.reader.specs.declared.PartRead.{PartRead}
+use Rattle.reader.specs.Reader.{closedPart, heldAt}
+use Rattle.reader.proofs.Stands.{Stands, open-small, stands-part, stands-task, stands-lock, stands-end}
+use Rattle.reader.proofs.Reading.{Reading, record-done}
+
+module _ (s : List ℕ) (c : Cursor) (seen : Seen) (opened : ℕ) (name : Span) (period : ℕ) (tasks : List Task) (all : List PartRead) (reading : Reading s c seen opened name period tasks all) (r : Shape) (next : Cursor) (at : RecordIs s c r next) where
+  abbrev a : Above
+  a = reading .above
+
+  abbrev closed : PartRead
+  closed = closedPart name period tasks (seen .tasks .count) (seen .locks)
+
+  -- behind the record x
+  goes-on : (x : Record) → recordAs s r ≡ x → AllDone s (c .line) a r → {seen′ : Seen} {opened′ : ℕ} {name′ : Span} {period′ : ℕ} {tasks′ : List Task} {all′ : List PartRead} → Stands s seen′ opened′ name′ period′ tasks′ all′ (after a x) → Reading s next seen′ opened′ name′ period′ tasks′ all′
+  goes-on x e d stands = record {
+    above = after a x;
+    reads = reading .reads ∙ record-done s c r next at a x e d;
+    lines-few = omega (arith, at .numbered, at .onward, reading .lines-few);
+    within = at .within;
+    small = reading .small;
+    stands = stands;
+  }
+
+  -- a store of the part that is closed lies within the array
+  pub part-room : opened < 16
+  part-room = open-small s seen opened name period tasks all a (reading .stands)
+
+  module _ (nm : Span) (v : ℕ) (is : entryOf s (c .line) seen r ≡ PartEntry nm v) where
+    entered-part : PartEntered s seen (c .line) a r nm v
+    entered-part = part-entered s seen a (reading .stands .seen-is) (c .line) r nm v is
+
+    pub name-room : seen .parts .count < 16
+    name-room = entered-part .room
+
+    pub reading-part : Reading s next (seenPart seen nm) (seen .parts .count) nm v (pad 16 noTaskRead []) (set all opened closed)
+    reading-part =
+        let e = entered-part in
+        let to = stands-part s seen opened name period tasks all a (reading .stands) nm (e .P) (e .room) in
+        subst (λ (x : ℕ). Reading s next (seenPart seen nm) (seen .parts .count) nm x (pad 16 noTaskRead []) (set all opened closed)) (sym (e .value))
+        (goes-on (part (bytesOf s nm) (e .P)) (e .is) (e .done) to)
+
+  module _ (nm : Span) (u v w : ℕ) (is : entryOf s (c .line) seen r ≡ TaskEntry nm u v w) where
+    entered-task : TaskEntered s seen (c .line) a r nm u v w
+    entered-task = task-entered s seen a (reading .stands .seen-is) (c .line) r nm u v w is
+
+    pub task-room : seen .tasks .count < 16
+    task-room = entered-task .room
+
+    abbrev taken : Task
+    taken = record { separation = u; cost = v; deadline = w; uses = pad 8 0 [] }
+
+    pub reading-task : Reading s next (seenTask seen nm taken) opened name period (set tasks (seen .tasks .count) taken) all
+    reading-task =
+        let e = entered-task in
+        let to = stands-task s seen opened name period tasks all a (reading .stands) nm (e .T) (e .C) (e .D) (e .part-above) (e .room) in
+        let same : taken ≡ taskWith (taskOf (bytesOf s nm) (e .T) (e .C) (e .D)) (pad 8 0 []) = λ i. record { separation = e .separation i; cost = e .cost i; deadline = e .deadline i; uses = pad 8 0 [] } in
+        subst (λ (t : Task). Reading s next (seenTask seen nm t) opened name period (set tasks (seen .tasks .count) t) all) (sym same)
+        (goes-on (task (bytesOf s nm) (e .T) (e .C) (e .D)) (e .is) (e .done) to)
+
+  module _ (nm : Span) (j v : ℕ) (is : entryOf s (c .line) seen r ≡ LockEntry nm j v) where
+    entered-lock : LockEntered s seen (c .line) a r nm j v
+    entered-lock = lock-entered s seen a (reading .stands .seen-is) (c .line) r nm j v is
+
+    pub lock-room : (j < 8) × (1 ≤ seen .tasks .count) × (seen .tasks .count ≤ 16)
+    lock-room =
+        let e = entered-lock in
+        let is-part = reading .stands .seen-is .part in
+        let count = task-count s (seen .tasks) (seen .locks) (seen .last) (thisPart a) is-part in
+        let k : j ≡ placeOf (bytesOf s nm) (lockNames (thisPart a)) = e .place ∙ ap (placeOf (bytesOf s nm)) (is-part .lock-names) in
+        (omega (arith, place-mention (bytesOf s nm) (lockNames (thisPart a)) 8 (e .few)), omega (arith, e .task-above), is-part .fine-tasks .few)
+
+    pub reading-lock : Reading s next (seenLock seen nm j (heldAt (seen .last) j v)) opened name period (set tasks (seen .tasks .count - 1) (heldAt (seen .last) j v)) all
+    unfolding heldAt
+    reading-lock =
+        let e = entered-lock in
+        let to = stands-lock s seen opened name period tasks all a (reading .stands) nm (e .c) (e .task-above) (e .new) (e .few) (e .part-above) (e .positive) in
+        subst₂ (λ (k x : ℕ). Reading s next (seenLock seen nm k (storedUse (seen .last) k x)) opened name period (set tasks (seen .tasks .count - 1) (storedUse (seen .last) k x)) all) (sym (e .place)) (sym (e .value))
+        (goes-on (lock (bytesOf s nm) (e .c)) (e .is) (e .done) to)
+
+  pub reading-end : entryOf s (c .line) seen r ≡ EndEntry → Reading s next (seenEnd seen) opened name period tasks (set all opened closed)
+  reading-end is =
+      let e = end-entered s seen a (reading .stands .seen-is) (c .line) r is in
+      goes-on end (e .is) (e .done) (stands-end s seen opened name period tasks all a (reading .stands))
