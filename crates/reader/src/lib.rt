@@ -9,6 +9,7 @@ use scan::Span;
 use task_set::Part;
 use task_set::Task;
 ghost use mathlib.Core.Path.{_≡_};
+ghost use Prim.Native.Nat.{_<_};
 ghost use Rattle.reader.specs.Reader.{noPartRead, closedPart, refusedFile, heldAt, ReadIs};
 
 // A part that was read: its name and the names of its locks as stretches of the file, and its numbers.

@@ -1,0 +1,13 @@
+-- `reader::closed_part` meets its contract.
+-- Assumes nothing.
+use mathlib.Core.Path.{refl}
+use Rattle.reader.specs.Reader.{closedPart}
+use Rattle.reader.proofs.closed_part.Statement.{statement}
+use Rattle.reader.proofs.closed_part.Tie as tie
+
+returns : tie.Need-returns
+unfolding closedPart
+returns c = refl
+
+pub closed-part-spec : {M : Type 1} → statement M
+closed-part-spec = tie.close (tie.spec returns)

@@ -1,0 +1,285 @@
+-- `reader::read_file` meets its contract. The invariant is `Reading`: what is left of the file decides, and the locals are what the lines above say.
+-- Assumes nothing.
+use Prim.Native.Nat.{ℕ, _-_, _≤_, _<_}
+use mathlib.Core.Path.{_≡_, sym, subst, _∙_}
+use mathlib.Core.List.{List, []}
+use lib.ListN.{length}
+use native.Mathlib.Omega.{arith}
+use borrow.Author.Needs.{needs}
+use Rattle.least.specs.Lists.{pad}
+use Rattle.refusal.specs.declared.Refusal.{Refusal}
+use Rattle.refusal.specs.declared.Refusal.the-variants.{FileTooLong, BadLine, Misplaced}
+use Rattle.refusal.specs.Questions.Answer.{refused}
+use Rattle.records.specs.declared.Cursor.{Cursor}
+use Rattle.records.specs.declared.Shape.{Shape}
+use Rattle.records.specs.Cursor.{RecordIs, BrokenIs}
+use Rattle.plan_file.specs.Reading.{readFile}
+use Rattle.plan_file.specs.Entries.{noSpan, noTaskRead, noneSeen, entryOf}
+use Rattle.reader.specs.declared.PlanFile.{PlanFile}
+use Rattle.reader.specs.Reader.{refusedFile, noPartRead, numbered, ReadIs}
+use Rattle.reader.proofs.Reading.{Reading, reading-start, reading-too-long, refused-file, turn-shortens, reading-fine, reading-refused, reading-broken, reading-over, reading-done}
+use Rattle.reader.proofs.Turns.{part-room, name-room, task-room, lock-room, reading-part, reading-task, reading-lock, reading-end}
+use Rattle.reader.proofs.read_file.Statement.{statement}
+use Rattle.reader.proofs.read_file.Tie as tie
+
+abbrev Inv-loop : tie.InvT-loop
+Inv-loop s c₀ seen₀ no-one all₀ open₀ name₀ period₀ tasks₀ c seen all «open» name period tasks = Reading s c seen «open» name period tasks all
+
+abbrev μ-loop : tie.MeasureT-loop
+μ-loop s c₀ seen₀ no-one all₀ open₀ name₀ period₀ tasks₀ c seen all «open» name period tasks = length s - c .at
+
+-- a refusal that the file has
+refused-is : (s : List ℕ) (x : Refusal) (f : PlanFile) → f ≡ refusedFile x → refused x ≡ numbered (readFile s) → ReadIs s f
+unfolding refusedFile
+refused-is s x f e h = record { value = rw e (refused-file s x ∙ h); few = rw e (omega arith) }
+
+abbrev file : tie.At-loop Inv-loop μ-loop → List ℕ
+file l = l .before .before .before .before .before .before .before .args .s .now
+
+-- a record was entered: where the turn began, what stands there, and what the entry is
+abbrev at : tie.After-entry-at Inv-loop μ-loop → tie.At-loop Inv-loop μ-loop
+at e = e .before .before .before .before .before .before .before
+
+abbrev shape : tie.After-entry-at Inv-loop μ-loop → Shape
+shape e = e .before .before .before .before .shape .given .0 .0
+
+abbrev behind : tie.After-entry-at Inv-loop μ-loop → Cursor
+behind e = e .before .before .before .before .shape .given .0 .1 .0
+
+record-is : (e : tie.After-entry-at Inv-loop μ-loop) → RecordIs (file (at e)) (at e .loop .c) (shape e) (behind e)
+record-is e = rw (e .before .before .before .before .shape .given .1) at (e .before .before .before .before .before .before .next .ensures)
+
+entry-is : (e : tie.After-entry-at Inv-loop μ-loop) → entryOf (file (at e)) (at e .loop .c .line) (at e .loop .seen) (shape e) ≡ e .entry-at .result
+entry-is e = sym (e .entry-at .ensures)
+
+shorter : (e : tie.After-entry-at Inv-loop μ-loop) → length (file (at e)) - behind e .at < length (file (at e)) - at e .loop .c .at
+shorter e = turn-shortens (file (at e)) (at e .loop .c) (shape e) (behind e) (record-is e)
+
+part-at : (e : tie.After-entry-at Inv-loop μ-loop) → at e .loop .«open» < 16
+part-at e = part-room (file (at (e))) (at (e) .loop .c) (at (e) .loop .seen) (at (e) .loop .«open») (at (e) .loop .name) (at (e) .loop .period) (at (e) .loop .tasks) (at (e) .loop .all) (at (e) .loop .inv) (shape (e)) (behind (e)) (record-is (e))
+
+refused-file-requires : tie.Need-refused-file-requires Inv-loop μ-loop
+refused-file-requires c κs = search needs
+
+returns : tie.Need-returns Inv-loop μ-loop
+returns c =
+    let s = c .before .before .before .args .s .now in
+    refused-is s FileTooLong (c .refused-file .result) (c .refused-file .ensures) (reading-too-long s (omega arith))
+
+new-requires : tie.Need-new-requires Inv-loop μ-loop
+new-requires c κs = search needs
+
+none-seen-requires : tie.Need-none-seen-requires Inv-loop μ-loop
+none-seen-requires c κs = search needs
+
+no-task-requires : tie.Need-no-task-requires Inv-loop μ-loop
+no-task-requires c κs = search needs
+
+no-part-requires : tie.Need-no-part-requires Inv-loop μ-loop
+no-part-requires c κs = search needs
+
+loop-holds : tie.Need-loop-holds Inv-loop μ-loop
+unfolding pad
+loop-holds c =
+    let s = c .before .before .before .before .before .before .args .s .now in
+    let n = c .before .before .before .new in
+    let first : _≡_ {A = Cursor} (record { at = 0; line = 1 }) (n .result) = λ i. record { at = sym (n .ensures .0) i; line = sym (n .ensures .1) i } in
+    rw (c .no-part .ensures, c .before .no-task .ensures, c .before .before .none-seen .ensures)
+    (subst (λ (k : Cursor). Reading s k noneSeen 0 noSpan 0 (pad 16 noTaskRead []) (pad 16 noPartRead [])) first (reading-start s (omega arith)))
+
+next-requires : tie.Need-next-requires Inv-loop μ-loop
+next-requires c κs = search needs
+
+enum-told : tie.Need-enum-told Inv-loop μ-loop
+enum-told c = search needs
+
+returns-2 : tie.Need-returns-2 Inv-loop μ-loop
+returns-2 c =
+    let l = c .before .before .before .before .before in
+    record {
+      value = reading-done (file l) (l .loop .c) (l .loop .seen) (l .loop .«open») (l .loop .name) (l .loop .period) (l .loop .tasks) (l .loop .all) (l .loop .inv) (rw (c .before .before .enum-told .given .1) at (c .before .before .before .before .next .ensures)) (c .if2 .taken);
+      few = reading-fine (file l) (l .loop .c) (l .loop .seen) (l .loop .«open») (l .loop .name) (l .loop .period) (l .loop .tasks) (l .loop .all) (l .loop .inv) .parts .few;
+    }
+
+refused-file-requires-2 : tie.Need-refused-file-requires-2 Inv-loop μ-loop
+refused-file-requires-2 c κs = search needs
+
+returns-3 : tie.Need-returns-3 Inv-loop μ-loop
+returns-3 c =
+    let l = c .before .before .before .before .before .before in
+    refused-is (file l) (Misplaced (l .loop .c .line)) (c .refused-file2 .result) (c .refused-file2 .ensures)
+    (reading-over (file l) (l .loop .c) (l .loop .seen) (l .loop .«open») (l .loop .name) (l .loop .period) (l .loop .tasks) (l .loop .all) (l .loop .inv) (rw (c .before .before .before .enum-told .given .1) at (c .before .before .before .before .before .next .ensures)) (c .before .if2 .left))
+
+enum-told-2 : tie.Need-enum-told-2 Inv-loop μ-loop
+enum-told-2 c = search needs
+
+refused-file-requires-3 : tie.Need-refused-file-requires-3 Inv-loop μ-loop
+refused-file-requires-3 c κs = search needs
+
+returns-4 : tie.Need-returns-4 Inv-loop μ-loop
+returns-4 c =
+    let l = c .before .before .before .before in
+    refused-is (file l) (BadLine (l .loop .c .line)) (c .refused-file3 .result) (c .refused-file3 .ensures)
+    (reading-broken (file l) (l .loop .c) (l .loop .seen) (l .loop .«open») (l .loop .name) (l .loop .period) (l .loop .tasks) (l .loop .all) (l .loop .inv) (rw (c .before .enum-told2 .given .1) at (c .before .before .before .next .ensures)))
+
+enum-known-shape : tie.Need-enum-known-shape Inv-loop μ-loop
+enum-known-shape c = search needs
+
+entry-at-requires : tie.Need-entry-at-requires Inv-loop μ-loop
+entry-at-requires c κs = search needs
+
+enum-known-r : tie.Need-enum-known-r Inv-loop μ-loop
+enum-known-r c = search needs
+
+refused-file-requires-4 : tie.Need-refused-file-requires-4 Inv-loop μ-loop
+refused-file-requires-4 c κs = search needs
+
+returns-5 : tie.Need-returns-5 Inv-loop μ-loop
+returns-5 c =
+    let e = c .before .before .before .before in
+    let l = at e in
+    refused-is (file l) (c .before .before .r .given .0 .0) (c .refused-file4 .result) (c .refused-file4 .ensures)
+    (reading-refused (file l) (l .loop .c) (l .loop .seen) (l .loop .«open») (l .loop .name) (l .loop .period) (l .loop .tasks) (l .loop .all) (l .loop .inv) (shape e) (behind e) (record-is e) (c .before .before .r .given .0 .0) (entry-is e ∙ c .before .before .r .given .1))
+
+enum-known-new-name : tie.Need-enum-known-new-name Inv-loop μ-loop
+enum-known-new-name c = search needs
+
+closed-part-requires : tie.Need-closed-part-requires Inv-loop μ-loop
+closed-part-requires c κs = search needs
+
+mul-all : tie.Need-mul-all Inv-loop μ-loop
+mul-all c = omega (arith, part-at (c .before .before .before .before .before))
+
+array-set-from-all : tie.Need-array-set-from-all Inv-loop μ-loop
+array-set-from-all c = part-at (c .before .before .before .before .before)
+
+seen-part-requires : tie.Need-seen-part-requires Inv-loop μ-loop
+seen-part-requires c κs = name-room (file (at (c .before .before .before .before .before))) (at (c .before .before .before .before .before) .loop .c) (at (c .before .before .before .before .before) .loop .seen) (at (c .before .before .before .before .before) .loop .«open») (at (c .before .before .before .before .before) .loop .name) (at (c .before .before .before .before .before) .loop .period) (at (c .before .before .before .before .before) .loop .tasks) (at (c .before .before .before .before .before) .loop .all) (at (c .before .before .before .before .before) .loop .inv) (shape (c .before .before .before .before .before)) (behind (c .before .before .before .before .before)) (record-is (c .before .before .before .before .before)) (c .before .before .before .new-name .given .0 .0) (c .before .before .before .new-name .given .0 .1 .0) (entry-is (c .before .before .before .before .before) ∙ c .before .before .before .new-name .given .1)
+
+loop-less : tie.Need-loop-less Inv-loop μ-loop
+loop-less c = shorter (c .before .before .before .before .before .before)
+
+loop-again : tie.Need-loop-again Inv-loop μ-loop
+unfolding pad
+loop-again c =
+    let law = reading-part (file (at (c .before .before .before .before .before .before))) (at (c .before .before .before .before .before .before) .loop .c) (at (c .before .before .before .before .before .before) .loop .seen) (at (c .before .before .before .before .before .before) .loop .«open») (at (c .before .before .before .before .before .before) .loop .name) (at (c .before .before .before .before .before .before) .loop .period) (at (c .before .before .before .before .before .before) .loop .tasks) (at (c .before .before .before .before .before .before) .loop .all) (at (c .before .before .before .before .before .before) .loop .inv) (shape (c .before .before .before .before .before .before)) (behind (c .before .before .before .before .before .before)) (record-is (c .before .before .before .before .before .before)) (c .before .before .before .before .new-name .given .0 .0) (c .before .before .before .before .new-name .given .0 .1 .0) (entry-is (c .before .before .before .before .before .before) ∙ c .before .before .before .before .new-name .given .1) in
+    rw (c .seen-part .ensures, c .before .closed-part .ensures, c .before .before .before .before .before .before .before .before .before .before .before .before .before .before .before .no-task .ensures) law
+
+enum-known-task-name : tie.Need-enum-known-task-name Inv-loop μ-loop
+enum-known-task-name c = search needs
+
+mul-tasks : tie.Need-mul-tasks Inv-loop μ-loop
+mul-tasks c = omega (arith, task-room (file (at (c .before .before .before))) (at (c .before .before .before) .loop .c) (at (c .before .before .before) .loop .seen) (at (c .before .before .before) .loop .«open») (at (c .before .before .before) .loop .name) (at (c .before .before .before) .loop .period) (at (c .before .before .before) .loop .tasks) (at (c .before .before .before) .loop .all) (at (c .before .before .before) .loop .inv) (shape (c .before .before .before)) (behind (c .before .before .before)) (record-is (c .before .before .before)) (c .before .task-name .given .0 .0) (c .before .task-name .given .0 .1 .0) (c .before .task-name .given .0 .1 .1 .0) (c .before .task-name .given .0 .1 .1 .1 .0) (entry-is (c .before .before .before) ∙ c .before .task-name .given .1))
+
+array-set-from-tasks : tie.Need-array-set-from-tasks Inv-loop μ-loop
+array-set-from-tasks c = task-room (file (at (c .before .before .before))) (at (c .before .before .before) .loop .c) (at (c .before .before .before) .loop .seen) (at (c .before .before .before) .loop .«open») (at (c .before .before .before) .loop .name) (at (c .before .before .before) .loop .period) (at (c .before .before .before) .loop .tasks) (at (c .before .before .before) .loop .all) (at (c .before .before .before) .loop .inv) (shape (c .before .before .before)) (behind (c .before .before .before)) (record-is (c .before .before .before)) (c .before .task-name .given .0 .0) (c .before .task-name .given .0 .1 .0) (c .before .task-name .given .0 .1 .1 .0) (c .before .task-name .given .0 .1 .1 .1 .0) (entry-is (c .before .before .before) ∙ c .before .task-name .given .1)
+
+seen-task-requires : tie.Need-seen-task-requires Inv-loop μ-loop
+seen-task-requires c κs = task-room (file (at (c .before .before .before))) (at (c .before .before .before) .loop .c) (at (c .before .before .before) .loop .seen) (at (c .before .before .before) .loop .«open») (at (c .before .before .before) .loop .name) (at (c .before .before .before) .loop .period) (at (c .before .before .before) .loop .tasks) (at (c .before .before .before) .loop .all) (at (c .before .before .before) .loop .inv) (shape (c .before .before .before)) (behind (c .before .before .before)) (record-is (c .before .before .before)) (c .before .task-name .given .0 .0) (c .before .task-name .given .0 .1 .0) (c .before .task-name .given .0 .1 .1 .0) (c .before .task-name .given .0 .1 .1 .1 .0) (entry-is (c .before .before .before) ∙ c .before .task-name .given .1)
+
+loop-less-2 : tie.Need-loop-less-2 Inv-loop μ-loop
+loop-less-2 c = shorter (c .before .before .before .before)
+
+loop-again-2 : tie.Need-loop-again-2 Inv-loop μ-loop
+unfolding pad
+loop-again-2 c = rw (c .seen-task .ensures) (reading-task (file (at (c .before .before .before .before))) (at (c .before .before .before .before) .loop .c) (at (c .before .before .before .before) .loop .seen) (at (c .before .before .before .before) .loop .«open») (at (c .before .before .before .before) .loop .name) (at (c .before .before .before .before) .loop .period) (at (c .before .before .before .before) .loop .tasks) (at (c .before .before .before .before) .loop .all) (at (c .before .before .before .before) .loop .inv) (shape (c .before .before .before .before)) (behind (c .before .before .before .before)) (record-is (c .before .before .before .before)) (c .before .before .task-name .given .0 .0) (c .before .before .task-name .given .0 .1 .0) (c .before .before .task-name .given .0 .1 .1 .0) (c .before .before .task-name .given .0 .1 .1 .1 .0) (entry-is (c .before .before .before .before) ∙ c .before .before .task-name .given .1))
+
+enum-known-lock-name : tie.Need-enum-known-lock-name Inv-loop μ-loop
+enum-known-lock-name c = search needs
+
+held-at-requires : tie.Need-held-at-requires Inv-loop μ-loop
+held-at-requires c κs = lock-room (file (at (c .before .before .before .before))) (at (c .before .before .before .before) .loop .c) (at (c .before .before .before .before) .loop .seen) (at (c .before .before .before .before) .loop .«open») (at (c .before .before .before .before) .loop .name) (at (c .before .before .before .before) .loop .period) (at (c .before .before .before .before) .loop .tasks) (at (c .before .before .before .before) .loop .all) (at (c .before .before .before .before) .loop .inv) (shape (c .before .before .before .before)) (behind (c .before .before .before .before)) (record-is (c .before .before .before .before)) (c .before .before .lock-name .given .0 .0) (c .before .before .lock-name .given .0 .1 .0) (c .before .before .lock-name .given .0 .1 .1 .0) (entry-is (c .before .before .before .before) ∙ c .before .before .lock-name .given .1) .0
+
+sub-tasks : tie.Need-sub-tasks Inv-loop μ-loop
+sub-tasks c = omega (arith, lock-room (file (at (c .before .before .before .before .before))) (at (c .before .before .before .before .before) .loop .c) (at (c .before .before .before .before .before) .loop .seen) (at (c .before .before .before .before .before) .loop .«open») (at (c .before .before .before .before .before) .loop .name) (at (c .before .before .before .before .before) .loop .period) (at (c .before .before .before .before .before) .loop .tasks) (at (c .before .before .before .before .before) .loop .all) (at (c .before .before .before .before .before) .loop .inv) (shape (c .before .before .before .before .before)) (behind (c .before .before .before .before .before)) (record-is (c .before .before .before .before .before)) (c .before .before .before .lock-name .given .0 .0) (c .before .before .before .lock-name .given .0 .1 .0) (c .before .before .before .lock-name .given .0 .1 .1 .0) (entry-is (c .before .before .before .before .before) ∙ c .before .before .before .lock-name .given .1))
+
+mul-tasks-2 : tie.Need-mul-tasks-2 Inv-loop μ-loop
+mul-tasks-2 c = omega (arith, lock-room (file (at (c .before .before .before .before .before))) (at (c .before .before .before .before .before) .loop .c) (at (c .before .before .before .before .before) .loop .seen) (at (c .before .before .before .before .before) .loop .«open») (at (c .before .before .before .before .before) .loop .name) (at (c .before .before .before .before .before) .loop .period) (at (c .before .before .before .before .before) .loop .tasks) (at (c .before .before .before .before .before) .loop .all) (at (c .before .before .before .before .before) .loop .inv) (shape (c .before .before .before .before .before)) (behind (c .before .before .before .before .before)) (record-is (c .before .before .before .before .before)) (c .before .before .before .lock-name .given .0 .0) (c .before .before .before .lock-name .given .0 .1 .0) (c .before .before .before .lock-name .given .0 .1 .1 .0) (entry-is (c .before .before .before .before .before) ∙ c .before .before .before .lock-name .given .1))
+
+array-set-from-tasks-2 : tie.Need-array-set-from-tasks-2 Inv-loop μ-loop
+array-set-from-tasks-2 c = omega (arith, lock-room (file (at (c .before .before .before .before .before))) (at (c .before .before .before .before .before) .loop .c) (at (c .before .before .before .before .before) .loop .seen) (at (c .before .before .before .before .before) .loop .«open») (at (c .before .before .before .before .before) .loop .name) (at (c .before .before .before .before .before) .loop .period) (at (c .before .before .before .before .before) .loop .tasks) (at (c .before .before .before .before .before) .loop .all) (at (c .before .before .before .before .before) .loop .inv) (shape (c .before .before .before .before .before)) (behind (c .before .before .before .before .before)) (record-is (c .before .before .before .before .before)) (c .before .before .before .lock-name .given .0 .0) (c .before .before .before .lock-name .given .0 .1 .0) (c .before .before .before .lock-name .given .0 .1 .1 .0) (entry-is (c .before .before .before .before .before) ∙ c .before .before .before .lock-name .given .1))
+
+seen-lock-requires : tie.Need-seen-lock-requires Inv-loop μ-loop
+seen-lock-requires c κs = omega (arith, lock-room (file (at (c .before .before .before .before .before))) (at (c .before .before .before .before .before) .loop .c) (at (c .before .before .before .before .before) .loop .seen) (at (c .before .before .before .before .before) .loop .«open») (at (c .before .before .before .before .before) .loop .name) (at (c .before .before .before .before .before) .loop .period) (at (c .before .before .before .before .before) .loop .tasks) (at (c .before .before .before .before .before) .loop .all) (at (c .before .before .before .before .before) .loop .inv) (shape (c .before .before .before .before .before)) (behind (c .before .before .before .before .before)) (record-is (c .before .before .before .before .before)) (c .before .before .before .lock-name .given .0 .0) (c .before .before .before .lock-name .given .0 .1 .0) (c .before .before .before .lock-name .given .0 .1 .1 .0) (entry-is (c .before .before .before .before .before) ∙ c .before .before .before .lock-name .given .1))
+
+loop-less-3 : tie.Need-loop-less-3 Inv-loop μ-loop
+loop-less-3 c = shorter (c .before .before .before .before .before .before)
+
+loop-again-3 : tie.Need-loop-again-3 Inv-loop μ-loop
+loop-again-3 c = rw (c .seen-lock .ensures, c .before .held-at .ensures) (reading-lock (file (at (c .before .before .before .before .before .before))) (at (c .before .before .before .before .before .before) .loop .c) (at (c .before .before .before .before .before .before) .loop .seen) (at (c .before .before .before .before .before .before) .loop .«open») (at (c .before .before .before .before .before .before) .loop .name) (at (c .before .before .before .before .before .before) .loop .period) (at (c .before .before .before .before .before .before) .loop .tasks) (at (c .before .before .before .before .before .before) .loop .all) (at (c .before .before .before .before .before .before) .loop .inv) (shape (c .before .before .before .before .before .before)) (behind (c .before .before .before .before .before .before)) (record-is (c .before .before .before .before .before .before)) (c .before .before .before .before .lock-name .given .0 .0) (c .before .before .before .before .lock-name .given .0 .1 .0) (c .before .before .before .before .lock-name .given .0 .1 .1 .0) (entry-is (c .before .before .before .before .before .before) ∙ c .before .before .before .before .lock-name .given .1))
+
+enum-told-3 : tie.Need-enum-told-3 Inv-loop μ-loop
+enum-told-3 c = search needs
+
+closed-part-requires-2 : tie.Need-closed-part-requires-2 Inv-loop μ-loop
+closed-part-requires-2 c κs = search needs
+
+mul-all-2 : tie.Need-mul-all-2 Inv-loop μ-loop
+mul-all-2 c = omega (arith, part-at (c .before .before .before))
+
+array-set-from-all-2 : tie.Need-array-set-from-all-2 Inv-loop μ-loop
+array-set-from-all-2 c = part-at (c .before .before .before)
+
+seen-end-requires : tie.Need-seen-end-requires Inv-loop μ-loop
+seen-end-requires c κs = search needs
+
+loop-less-4 : tie.Need-loop-less-4 Inv-loop μ-loop
+loop-less-4 c = shorter (c .before .before .before .before)
+
+loop-again-4 : tie.Need-loop-again-4 Inv-loop μ-loop
+loop-again-4 c = rw (c .seen-end .ensures, c .before .closed-part2 .ensures) (reading-end (file (at (c .before .before .before .before))) (at (c .before .before .before .before) .loop .c) (at (c .before .before .before .before) .loop .seen) (at (c .before .before .before .before) .loop .«open») (at (c .before .before .before .before) .loop .name) (at (c .before .before .before .before) .loop .period) (at (c .before .before .before .before) .loop .tasks) (at (c .before .before .before .before) .loop .all) (at (c .before .before .before .before) .loop .inv) (shape (c .before .before .before .before)) (behind (c .before .before .before .before)) (record-is (c .before .before .before .before)) (entry-is (c .before .before .before .before) ∙ c .before .before .enum-told3 .given .1))
+
+pub read-file-spec : {M : Type 1} → statement M
+read-file-spec =
+    tie.close
+    (tie.spec
+    Inv-loop
+    μ-loop
+    refused-file-requires
+    returns
+    new-requires
+    none-seen-requires
+    no-task-requires
+    no-part-requires
+    loop-holds
+    next-requires
+    enum-told
+    returns-2
+    refused-file-requires-2
+    returns-3
+    enum-told-2
+    refused-file-requires-3
+    returns-4
+    enum-known-shape
+    entry-at-requires
+    enum-known-r
+    refused-file-requires-4
+    returns-5
+    enum-known-new-name
+    closed-part-requires
+    mul-all
+    array-set-from-all
+    seen-part-requires
+    loop-less
+    loop-again
+    enum-known-task-name
+    mul-tasks
+    array-set-from-tasks
+    seen-task-requires
+    loop-less-2
+    loop-again-2
+    enum-known-lock-name
+    held-at-requires
+    sub-tasks
+    mul-tasks-2
+    array-set-from-tasks-2
+    seen-lock-requires
+    loop-less-3
+    loop-again-3
+    enum-told-3
+    closed-part-requires-2
+    mul-all-2
+    array-set-from-all-2
+    seen-end-requires
+    loop-less-4
+    loop-again-4)
