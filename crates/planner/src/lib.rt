@@ -1,6 +1,12 @@
 // The five operations: plan, candidates, name, weigh and supply. Their answers.
 use candidates::Kept;
 use refusal::Outcome;
+use refusal::Refusal;
+ghost use mathlib.Core.Path.{_≡_};
+ghost use mathlib.Core.Bool.{_&&_};
+ghost use lib.Dec.{leb};
+ghost use Rattle.refusal.specs.Questions.{outcomeOf};
+ghost use Rattle.planner.specs.Answers.{nameOf, nameBytes};
 
 // What a plan answers: how many bytes it wrote.
 pub struct Planned {

@@ -2,3 +2,4 @@ pub mod Arrays
 pub mod Stands
 pub mod Reading
 pub mod Turns
+pub mod Handed

@@ -9,7 +9,7 @@
 use Prim.Native.Nat.{ℕ, _≤_}
 use mathlib.Core.Path.{_≡_}
 use mathlib.Core.List.{List, [], map}
-use lib.ListN.{take, set}
+use lib.ListN.{length, take, set}
 use Rattle.least.specs.Lists.{pad}
 use Rattle.refusal.specs.declared.Refusal.{Refusal}
 use Rattle.refusal.specs.declared.Outcome.{Outcome}
@@ -54,6 +54,7 @@ fileOf s f = answerOf (f .outcome) (map (partOf s) (take (f .count) (f .parts)))
 pub record ReadIs (s : List ℕ) (f : PlanFile) : Type 0 where
   pub value : fileOf s f ≡ numbered (readFile s)
   pub few : f .count ≤ 16
+  pub room : length (f .parts) ≡ 16
 
 -- what the code makes: a part with all that was read of it, a refusal, a task that holds the lock at place j
 unfoldable pub closedPart : Span → ℕ → List Task → ℕ → Names → PartRead

@@ -7,6 +7,7 @@ use lib.ListN.{length}
 use native.Mathlib.Omega.{arith}
 use borrow.Author.Needs.{needs}
 use Rattle.least.specs.Lists.{pad}
+use Rattle.least.proofs.Pad.{length-pad}
 use Rattle.refusal.specs.declared.Refusal.{Refusal}
 use Rattle.refusal.specs.declared.Refusal.the-variants.{FileTooLong, BadLine, Misplaced}
 use Rattle.refusal.specs.Questions.Answer.{refused}
@@ -31,7 +32,7 @@ abbrev μ-loop : tie.MeasureT-loop
 -- a refusal that the file has
 refused-is : (s : List ℕ) (x : Refusal) (f : PlanFile) → f ≡ refusedFile x → refused x ≡ numbered (readFile s) → ReadIs s f
 unfolding refusedFile
-refused-is s x f e h = record { value = rw e (refused-file s x ∙ h); few = rw e (omega arith) }
+refused-is s x f e h = record { value = rw e (refused-file s x ∙ h); few = rw e (omega arith); room = rw e (length-pad 16 noPartRead []) }
 
 abbrev file : tie.At-loop Inv-loop μ-loop → List ℕ
 file l = l .before .before .before .before .before .before .before .args .s .now
@@ -99,6 +100,7 @@ returns-2 c =
     record {
       value = reading-done (file l) (l .loop .c) (l .loop .seen) (l .loop .«open») (l .loop .name) (l .loop .period) (l .loop .tasks) (l .loop .all) (l .loop .inv) (rw (c .before .before .enum-told .given .1) at (c .before .before .before .before .next .ensures)) (c .if2 .taken);
       few = reading-fine (file l) (l .loop .c) (l .loop .seen) (l .loop .«open») (l .loop .name) (l .loop .period) (l .loop .tasks) (l .loop .all) (l .loop .inv) .parts .few;
+      room = l .loop .inv .stands .room;
     }
 
 refused-file-requires-2 : tie.Need-refused-file-requires-2 Inv-loop μ-loop

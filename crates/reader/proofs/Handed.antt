@@ -1,0 +1,63 @@
+-- What the struct that the reader hands on says of the file.
+-- Assumes nothing.
+use Prim.Native.Nat.{ℕ}
+use native.Mathlib.Omega.{arith}
+use mathlib.Core.Path.{_≡_, refl, sym, ap, _∙_}
+use mathlib.Core.List.{List, map}
+use lib.ListN.{length, take, length-map}
+use lib.Seq.{length-take-le}
+use Rattle.refusal.specs.declared.Refusal.{Refusal}
+use Rattle.refusal.specs.declared.Outcome.{Outcome}
+use Rattle.refusal.specs.declared.Outcome.the-variants.{Done, Refused}
+use Rattle.refusal.specs.Questions.{Answer}
+use Rattle.refusal.specs.Questions.Answer.{answered, refused}
+use Rattle.plan_file.specs.Above.{FilePart}
+use Rattle.plan_file.specs.Reading.{readFile}
+use Rattle.reader.specs.declared.PlanFile.{PlanFile}
+use Rattle.reader.specs.Reader.{ReadPart, numbersOf, numbered, partOf, answerOf, fileOf, ReadIs}
+
+-- the parts of a readable file, and that the struct holds their numbers
+pub record Handed (s : List ℕ) (f : PlanFile) : Type 0 where
+  pub parts : List FilePart
+  pub reads : readFile s ≡ answered parts
+  pub same : map (partOf s) (take (f .count) (f .parts)) ≡ map numbersOf parts
+  pub count : length parts ≡ f .count
+
+answered-same : {A : Type 0} {x y : A} → answered x ≡ answered y → x ≡ y
+answered-same e = cc
+
+never-refused : {A : Type 0} {x : A} (r : Refusal) → answered x ≡ refused r → ⊥
+never-refused {A} {x} r e = let z : _≡_ {A = ℕ} 0 1 = cc in omega arith
+
+refused-same : {A : Type 0} (r x : Refusal) → _≡_ {A = Answer A} (refused r) (refused x) → r ≡ x
+refused-same r x e = cc
+
+module _ (s : List ℕ) (f : PlanFile) (is : ReadIs s f) where
+  pub handed-refused : (r : Refusal) → f .outcome ≡ Refused r → readFile s ≡ refused r
+  unfolding fileOf answerOf numbered
+  handed-refused r e = go (readFile s) refl
+    where
+      said : refused r ≡ numbered (readFile s)
+      said = sym (ap (λ (o : Outcome). answerOf o (map (partOf s) (take (f .count) (f .parts)))) e) ∙ is .value
+
+      go : (a : Answer (List FilePart)) → readFile s ≡ a → readFile s ≡ refused r
+      go (answered ps) h = absurd (never-refused r (sym (said ∙ ap numbered h)))
+      go (refused x) h = h ∙ ap refused (sym (refused-same r x (said ∙ ap numbered h)))
+
+  pub handed-done : f .outcome ≡ Done → Handed s f
+  unfolding fileOf answerOf numbered
+  handed-done e = go (readFile s) refl
+    where
+      said : answered (map (partOf s) (take (f .count) (f .parts))) ≡ numbered (readFile s)
+      said = sym (ap (λ (o : Outcome). answerOf o (map (partOf s) (take (f .count) (f .parts)))) e) ∙ is .value
+
+      go : (a : Answer (List FilePart)) → readFile s ≡ a → Handed s f
+      go (answered ps) h =
+          let same : map (partOf s) (take (f .count) (f .parts)) ≡ map numbersOf ps = answered-same (said ∙ ap numbered h) in
+          record {
+            parts = ps;
+            reads = h;
+            same = same;
+            count = omega (arith, length-map ps numbersOf, length-map (take (f .count) (f .parts)) (partOf s), ap length same, length-take-le (f .count) (f .parts) (omega (arith, is .few, is .room)));
+          }
+      go (refused x) h = absurd (never-refused x (said ∙ ap numbered h))
