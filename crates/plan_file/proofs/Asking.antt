@@ -197,10 +197,10 @@ module _ (s : List ℕ) (n : ℕ) (allowed : Bool) (last : TaskNumbers) (locks :
   unfolding lockEntry lockQuestions firstNo entryIf
   lock-long a l b h = simp (a .here, a .good, ← at, lt-leb 1 (useAt last j) l, b .good, b .value, lt-leb _ _ h)
 
-  pub lock-too-many : {v : ℕ} → Named allowed (bytesOf s name) → useAt last j < 1 → NumberIs (bytesOf s held) v → v ≤ last .cost → 8 ≤ j → RefusedEntry (TooMany n) ≡ lockEntry s n allowed last locks name held
-  unfolding lockEntry lockQuestions firstNo entryIf
-  lock-too-many a l b h g = simp (a .here, a .good, ← at, lt-leb 1 (useAt last j) l, b .good, b .value, le-leb _ _ h, mentions, le-ltb j lockLimit g)
-
   pub lock-enters : {v : ℕ} → Named allowed (bytesOf s name) → useAt last j < 1 → NumberIs (bytesOf s held) v → v ≤ last .cost → j < 8 → Lock name j v ≡ lockEntry s n allowed last locks name held
   unfolding lockEntry lockQuestions firstNo entryIf
   lock-enters a l b h g = simp (a .here, a .good, ← at, lt-leb 1 (useAt last j) l, b .good, b .value, le-leb _ _ h, mentions, lt-ltb j lockLimit g)
+
+  pub lock-too-many : {v : ℕ} → Named allowed (bytesOf s name) → useAt last j < 1 → NumberIs (bytesOf s held) v → v ≤ last .cost → 8 ≤ j → RefusedEntry (TooMany n) ≡ lockEntry s n allowed last locks name held
+  unfolding lockEntry lockQuestions firstNo entryIf
+  lock-too-many a l b h g = simp (a .here, a .good, ← at, lt-leb 1 (useAt last j) l, b .good, b .value, le-leb _ _ h, mentions, le-ltb j lockLimit g)

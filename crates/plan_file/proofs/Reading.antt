@@ -1,0 +1,192 @@
+-- Questions 1 to 9 in their order, in the paper's words: when a file is refused, with which refusal and where, and when it is answered.
+--   said a ls     == what the lines up to the last of ls say, where a is what the lines above them say
+--   AllYes n a ls == every question of every one of these lines has the answer yes; the first of them has the number n
+-- Assumes nothing.
+use Prim.Native.Nat.{ℕ, suc, _+_, _≤_, _<_}
+use native.Mathlib.Nat.{add-zero}
+use native.Mathlib.Omega.{arith}
+use mathlib.Core.Path.{_≡_, refl, sym, ap, subst, _∙_}
+use mathlib.Core.Bool.{Bool, true, false, cond}
+use mathlib.Core.Logic.{_⊎_, inl, inr, _↔_}
+use mathlib.Core.List.{List, [], _∷_, _++_, append-nil}
+use borrow.Author.Tests.{leb-true, leb-false, le-leb, lt-leb}
+use lib.Dec.{leb}
+use lib.ListN.{length}
+use Rattle.text.specs.Bytes.{Line, linesOf}
+use Rattle.refusal.specs.declared.Refusal.{Refusal}
+use Rattle.refusal.specs.declared.Refusal.the-variants.{FileTooLong, Misplaced}
+use Rattle.refusal.specs.declared.Outcome.{Outcome}
+use Rattle.refusal.specs.declared.Outcome.the-variants.{Done, Refused}
+use Rattle.refusal.specs.Limits.{fileLimit}
+use Rattle.refusal.specs.Questions.{ask, firstNo, Answer, whenDone}
+use Rattle.refusal.specs.Questions.Answer.{answered, refused}
+use Rattle.refusal.proofs.Questions.{allYes, FirstNo, yes-next, no-answers, refused-iff, done-iff}
+use Rattle.records.specs.Records.{recordIn}
+use Rattle.plan_file.specs.Above.{FilePart, Above, nothingAbove, after}
+use Rattle.plan_file.specs.Reading.{isEnd, questionsAt, readLines, readFile}
+
+unfoldable pub said : Above → List Line → Above
+said a [] = a
+said a (l ∷ ls) = said (after a (recordIn l)) ls
+
+abbrev pub AllYes : ℕ → Above → List Line → Type 0
+AllYes n a ls =
+    (above : List Line) (l : Line) (behind : List Line) → ls ≡ above ++ (l ∷ behind) → allYes (questionsAt (n + length above) (said a above) l) ≡ true
+
+-- no line, one line more at the front
+yes-none : (n : ℕ) (a : Above) → AllYes n a []
+yes-none n a [] l behind e = absurd (omega (arith, ap length e))
+yes-none n a (x ∷ xs) l behind e = absurd (omega (arith, ap length e))
+
+yes-more : (n : ℕ) (a : Above) (l : Line) (ls : List Line) → allYes (questionsAt n a l) ≡ true → AllYes (suc n) (after a (recordIn l)) ls → AllYes n a (l ∷ ls)
+unfolding said
+yes-more n a l ls y p [] k behind e = let q : l ≡ k = cc in rw (add-zero n, ← q) y
+yes-more n a l ls y p (x ∷ xs) k behind e =
+    let q : l ≡ x = cc in
+    let f : ls ≡ xs ++ (k ∷ behind) = cc in
+    let m : n + suc (length xs) ≡ suc n + length xs = omega arith in
+    rw (m, ← q) (p xs k behind f)
+
+yes-first : (n : ℕ) (a : Above) (l : Line) (ls : List Line) → AllYes n a (l ∷ ls) → allYes (questionsAt n a l) ≡ true
+unfolding said
+yes-first n a l ls p = rw add-zero at (p [] l ls refl)
+
+yes-rest : (n : ℕ) (a : Above) (l : Line) (ls : List Line) → AllYes n a (l ∷ ls) → AllYes (suc n) (after a (recordIn l)) ls
+unfolding said
+yes-rest n a l ls p xs k behind e =
+    let m : suc n + length xs ≡ n + suc (length xs) = omega arith in
+    rw m (p (l ∷ xs) k behind (ap (λ (z : List Line). l ∷ z) e))
+
+-- one line is read
+read-next : (n : ℕ) (a : Above) (l : Line) (ls : List Line) → firstNo (questionsAt n a l) ≡ Done → readLines n a (l ∷ ls) ≡ readLines (suc n) (after a (recordIn l)) ls
+unfolding readLines
+read-next n a l ls e = rw (e, readLines) refl
+
+read-stop : (n : ℕ) (a : Above) (l : Line) (ls : List Line) (r : Refusal) → firstNo (questionsAt n a l) ≡ Refused r → readLines n a (l ∷ ls) ≡ refused r
+unfolding readLines
+read-stop n a l ls r e = rw (e, readLines) refl
+
+read-ended : (n : ℕ) (a : Above) → isEnd (a .directly) ≡ true → readLines n a [] ≡ answered (a .parts)
+unfolding readLines
+read-ended n a e = simp e
+
+read-short : (n : ℕ) (a : Above) → isEnd (a .directly) ≡ false → readLines n a [] ≡ refused (Misplaced n)
+unfolding readLines
+read-short n a e = simp e
+
+-- lines whose answers are yes are read past
+read-past : (n : ℕ) (a : Above) (before behind : List Line) → AllYes n a before → readLines n a (before ++ behind) ≡ readLines (n + length before) (said a before) behind
+unfolding said
+read-past n a [] behind p = rw add-zero refl
+read-past n a (l ∷ ls) behind p =
+    let m : n + suc (length ls) ≡ suc n + length ls = omega arith in
+    rw m (read-next n a l (ls ++ behind) (done-iff (questionsAt n a l) .1 (yes-first n a l ls p)) ∙ read-past (suc n) (after a (recordIn l)) ls behind (yes-rest n a l ls p))
+
+-- the line with the first no
+pub record StopsAt (n : ℕ) (a : Above) (ls : List Line) (r : Refusal) : Type 0 where
+  pub before : List Line
+  pub line : Line
+  pub behind : List Line
+  pub lines : ls ≡ before ++ (line ∷ behind)
+  pub yes : AllYes n a before
+  pub no : FirstNo (questionsAt (n + length before) (said a before) line) r
+
+stops-here : (n : ℕ) (a : Above) (l : Line) (ls : List Line) (r : Refusal) → firstNo (questionsAt n a l) ≡ Refused r → StopsAt n a (l ∷ ls) r
+unfolding said
+stops-here n a l ls r e = record { before = []; line = l; behind = ls; lines = refl; yes = yes-none n a; no = rw add-zero (refused-iff (questionsAt n a l) r .0 e) }
+
+stops-later : (n : ℕ) (a : Above) (l : Line) (ls : List Line) (r : Refusal) → allYes (questionsAt n a l) ≡ true → StopsAt (suc n) (after a (recordIn l)) ls r → StopsAt n a (l ∷ ls) r
+unfolding said
+stops-later n a l ls r y d =
+    let m : n + suc (length (d .before)) ≡ suc n + length (d .before) = omega arith in
+    record { before = l ∷ d .before; line = d .line; behind = d .behind; lines = ap (λ (z : List Line). l ∷ z) (d .lines); yes = yes-more n a l (d .before) y (d .yes); no = rw m (d .no) }
+
+-- either no line has a no, or there is a first one
+abbrev Passed : ℕ → Above → List Line → Type 0
+Passed n a ls = AllYes n a ls ⊎ ((r : Refusal) × StopsAt n a ls r)
+
+passed : (n : ℕ) (a : Above) (ls : List Line) → Passed n a ls
+passed n a [] = inl (yes-none n a)
+passed n a (l ∷ ls) = go (firstNo (questionsAt n a l)) refl (passed (suc n) (after a (recordIn l)) ls)
+  where
+    go : (o : Outcome) → firstNo (questionsAt n a l) ≡ o → Passed (suc n) (after a (recordIn l)) ls → Passed n a (l ∷ ls)
+    go Done e (inl p) = inl (yes-more n a l ls (done-iff (questionsAt n a l) .0 e) p)
+    go Done e (inr d) = inr (d .0, stops-later n a l ls (d .0) (done-iff (questionsAt n a l) .0 e) (d .1))
+    go (Refused r) e k = inr (r, stops-here n a l ls r e)
+
+-- the ways in which a file is refused: it is too long; a line has a no; or it runs out before `end`
+pub data RefusedAt (s : List ℕ) (r : Refusal) : Type 0 where
+  too-long : fileLimit < length s → r ≡ FileTooLong → RefusedAt s r
+  on-line : length s ≤ fileLimit → StopsAt 1 nothingAbove (linesOf s) r → RefusedAt s r
+  run-out : length s ≤ fileLimit → AllYes 1 nothingAbove (linesOf s) → isEnd (said nothingAbove (linesOf s) .directly) ≡ false → r ≡ Misplaced (1 + length (linesOf s)) → RefusedAt s r
+
+pub record AnsweredBy (s : List ℕ) (ps : List FilePart) : Type 0 where
+  pub fits : length s ≤ fileLimit
+  pub yes : AllYes 1 nothingAbove (linesOf s)
+  pub ended : isEnd (said nothingAbove (linesOf s) .directly) ≡ true
+  pub are : said nothingAbove (linesOf s) .parts ≡ ps
+
+read-long : (s : List ℕ) → fileLimit < length s → readFile s ≡ refused FileTooLong
+unfolding readFile firstNo whenDone
+read-long s h = simp (lt-leb (length s) fileLimit h)
+
+read-lines : (s : List ℕ) → length s ≤ fileLimit → readFile s ≡ readLines 1 nothingAbove (linesOf s)
+unfolding readFile firstNo whenDone
+read-lines s h = simp (le-leb (length s) fileLimit h)
+
+read-all : (s : List ℕ) → length s ≤ fileLimit → AllYes 1 nothingAbove (linesOf s) → readFile s ≡ readLines (1 + length (linesOf s)) (said nothingAbove (linesOf s)) []
+read-all s h p = read-lines s h ∙ (ap (readLines 1 nothingAbove) (sym (append-nil (linesOf s))) ∙ read-past 1 nothingAbove (linesOf s) [] p)
+
+refused-so : (s : List ℕ) (r : Refusal) → RefusedAt s r → readFile s ≡ refused r
+refused-so s r (too-long h e) = read-long s h ∙ ap refused (sym e)
+refused-so s r (on-line h d) =
+    read-lines s h ∙ (ap (readLines 1 nothingAbove) (d .lines) ∙ (read-past 1 nothingAbove (d .before) (d .line ∷ d .behind) (d .yes) ∙ read-stop _ _ (d .line) (d .behind) r (refused-iff _ r .1 (d .no))))
+refused-so s r (run-out h p e q) = read-all s h p ∙ (read-short _ _ e ∙ ap refused (sym q))
+
+answered-so : (s : List ℕ) (ps : List FilePart) → AnsweredBy s ps → readFile s ≡ answered ps
+answered-so s ps d = read-all s (d .fits) (d .yes) ∙ (read-ended _ _ (d .ended) ∙ ap answered (d .are))
+
+-- every file is refused or answered
+abbrev Known : List ℕ → Type 0
+Known s = ((r : Refusal) × RefusedAt s r) ⊎ ((ps : List FilePart) × AnsweredBy s ps)
+
+ends-known : (s : List ℕ) → length s ≤ fileLimit → AllYes 1 nothingAbove (linesOf s) → Known s
+ends-known s h p = go (isEnd (said nothingAbove (linesOf s) .directly)) refl
+  where
+    go : (b : Bool) → isEnd (said nothingAbove (linesOf s) .directly) ≡ b → Known s
+    go true e = inr (said nothingAbove (linesOf s) .parts, record { fits = h; yes = p; ended = e; are = refl })
+    go false e = inl (Misplaced (1 + length (linesOf s)), run-out h p e refl)
+
+lines-known : (s : List ℕ) → length s ≤ fileLimit → Passed 1 nothingAbove (linesOf s) → Known s
+lines-known s h (inl p) = ends-known s h p
+lines-known s h (inr d) = inl (d .0, on-line h (d .1))
+
+file-known : (s : List ℕ) → Known s
+file-known s = go (leb (length s) fileLimit) refl
+  where
+    go : (b : Bool) → leb (length s) fileLimit ≡ b → Known s
+    go true e = lines-known s (leb-true (length s) fileLimit e) (passed 1 nothingAbove (linesOf s))
+    go false e = inl (FileTooLong, too-long (leb-false (length s) fileLimit e) refl)
+
+same-refused : {r t : Refusal} → _≡_ {A = Answer (List FilePart)} (refused r) (refused t) → r ≡ t
+same-refused e = cc
+
+same-answered : {ps qs : List FilePart} → _≡_ {A = Answer (List FilePart)} (answered ps) (answered qs) → ps ≡ qs
+same-answered e = cc
+
+not-both : {r : Refusal} {ps : List FilePart} → _≡_ {A = Answer (List FilePart)} (refused r) (answered ps) → ⊥
+not-both e = let z : _≡_ {A = ℕ} 0 1 = cc in omega arith
+
+pub read-refused-iff : (s : List ℕ) (r : Refusal) → (readFile s ≡ refused r) ↔ RefusedAt s r
+read-refused-iff s r = (λ e. go e (file-known s), refused-so s r)
+  where
+    go : readFile s ≡ refused r → Known s → RefusedAt s r
+    go e (inl d) = subst (RefusedAt s) (same-refused (sym (refused-so s (d .0) (d .1)) ∙ e)) (d .1)
+    go e (inr d) = absurd (not-both (sym e ∙ answered-so s (d .0) (d .1)))
+
+pub read-answered-iff : (s : List ℕ) (ps : List FilePart) → (readFile s ≡ answered ps) ↔ AnsweredBy s ps
+read-answered-iff s ps = (λ e. go e (file-known s), answered-so s ps)
+  where
+    go : readFile s ≡ answered ps → Known s → AnsweredBy s ps
+    go e (inl d) = absurd (not-both (sym (refused-so s (d .0) (d .1)) ∙ e))
+    go e (inr d) = subst (AnsweredBy s) (same-answered (sym (answered-so s (d .0) (d .1)) ∙ e)) (d .1)
