@@ -2,27 +2,24 @@
 -- Assumes nothing.
 use Prim.Native.Nat.{ℕ, suc, _≤_, _<_}
 use native.Mathlib.Omega.{arith}
-use mathlib.Core.Path.{_≡_, refl, sym, ap, _∙_}
-use mathlib.Core.Bool.{Bool, true, false, not, _&&_, and-false}
-use mathlib.Core.List.{List, [], _∷_}
+use mathlib.Core.Path.{_≡_, refl, _∙_}
+use mathlib.Core.Bool.{Bool, true, false, _&&_, and-false}
+use mathlib.Core.List.{List}
 use borrow.Author.Tests.{lt-ltb, le-ltb, le-leb, lt-leb}
 use lib.Dec.{leb, ltb}
 use lib.ListN.{length}
 use Rattle.text.specs.Bytes.{among, mention}
 use Rattle.text.specs.Decimal.{valueOf}
 use Rattle.refusal.specs.declared.Refusal.the-variants.{Misplaced, BadName, KnownName, BadNumber, BadOrder, TooMany}
-use Rattle.refusal.specs.Limits.{partLimit, taskLimit, lockLimit}
+use Rattle.refusal.specs.Limits.{lockLimit}
 use Rattle.refusal.specs.Questions.{firstNo}
 use Rattle.scan.specs.declared.Span.{Span}
 use Rattle.scan.specs.Scan.{bytesOf}
-use Rattle.fields.specs.declared.Number.{Number}
 use Rattle.fields.specs.declared.Number.the-variants.{Is, Malformed as MalformedNumber}
 use Rattle.fields.specs.Fields.{isName, isNumber, numberIn}
 use Rattle.task_set.specs.declared.Task.{Task as TaskNumbers}
 use Rattle.plan_file.specs.declared.Names.{Names}
-use Rattle.plan_file.specs.declared.Times.{Times}
 use Rattle.plan_file.specs.declared.Times.the-variants.{Are, Malformed}
-use Rattle.plan_file.specs.declared.Entry.{Entry}
 use Rattle.plan_file.specs.declared.Entry.the-variants.{Part, Task, Lock, Refused as RefusedEntry}
 use Rattle.plan_file.specs.Reading.{partQuestions, taskQuestions, lockQuestions}
 use Rattle.plan_file.specs.Entries.{namesOf, FineNames, placeOf, timesIn, entryIf, partEntry, taskEntry, useAt, lockEntry}
@@ -99,12 +96,12 @@ pub record Named (allowed : Bool) (name : List ℕ) : Type 0 where
   pub good : isName name ≡ true
 
 -- question 6 of a part or a task, and whether there is room for one name more
-module _ (s : List ℕ) (names : Names) (fine : FineNames names) (name : List ℕ) where
-  known-name : placeOf name (namesOf s names) < names .count → among name (namesOf s names) ≡ true
-  known-name l = among-place name (namesOf s names) ∙ lt-ltb (placeOf name (namesOf s names)) (length (namesOf s names)) (omega (arith, names-length s names fine))
+module _ (s : List ℕ) (names : Names) (fine : FineNames names) where
+  known-name : (name : List ℕ) → placeOf name (namesOf s names) < names .count → among name (namesOf s names) ≡ true
+  known-name name l = among-place name (namesOf s names) ∙ lt-ltb (placeOf name (namesOf s names)) (length (namesOf s names)) (omega (arith, names-length s names fine))
 
-  new-name : names .count ≤ placeOf name (namesOf s names) → among name (namesOf s names) ≡ false
-  new-name l = among-place name (namesOf s names) ∙ le-ltb (placeOf name (namesOf s names)) (length (namesOf s names)) (omega (arith, names-length s names fine))
+  new-name : (name : List ℕ) → names .count ≤ placeOf name (namesOf s names) → among name (namesOf s names) ≡ false
+  new-name name l = among-place name (namesOf s names) ∙ le-ltb (placeOf name (namesOf s names)) (length (namesOf s names)) (omega (arith, names-length s names fine))
 
   no-room : 16 ≤ names .count → leb (suc (length (namesOf s names))) 16 ≡ false
   no-room l = lt-leb (suc (length (namesOf s names))) 16 (omega (arith, names-length s names fine))
@@ -132,11 +129,11 @@ module _ (s : List ℕ) (n : ℕ) (allowed : Bool) (parts : Names) (name P : Spa
 
   pub part-too-many : {v : ℕ} → Named allowed (bytesOf s name) → parts .count ≤ placeOf (bytesOf s name) (namesOf s parts) → NumberIs (bytesOf s P) v → 16 ≤ parts .count → RefusedEntry (TooMany n) ≡ partEntry s n allowed parts name P
   unfolding partEntry partQuestions firstNo entryIf
-  part-too-many a l b h = simp (a .here, a .good, new-name s parts fine (bytesOf s name) l, b .good, no-room s parts fine (bytesOf s name) h)
+  part-too-many a l b h = simp (a .here, a .good, new-name s parts fine (bytesOf s name) l, b .good, no-room s parts fine h)
 
   pub part-enters : {v : ℕ} → Named allowed (bytesOf s name) → parts .count ≤ placeOf (bytesOf s name) (namesOf s parts) → NumberIs (bytesOf s P) v → parts .count < 16 → Part name v ≡ partEntry s n allowed parts name P
   unfolding partEntry partQuestions firstNo entryIf
-  part-enters a l b h = simp (a .here, a .good, new-name s parts fine (bytesOf s name) l, b .good, b .value, room s parts fine (bytesOf s name) h)
+  part-enters a l b h = simp (a .here, a .good, new-name s parts fine (bytesOf s name) l, b .good, b .value, room s parts fine h)
 
 -- of a `task`
 module _ (s : List ℕ) (n : ℕ) (allowed : Bool) (tasks : Names) (name T C D : Span) (fine : FineNames tasks) where
@@ -166,11 +163,11 @@ module _ (s : List ℕ) (n : ℕ) (allowed : Bool) (tasks : Names) (name T C D :
 
   pub task-too-many : {t c d : ℕ} → Named allowed (bytesOf s name) → tasks .count ≤ placeOf (bytesOf s name) (namesOf s tasks) → TimesAre (bytesOf s T) (bytesOf s C) (bytesOf s D) t c d → c ≤ d → d ≤ t → 16 ≤ tasks .count → RefusedEntry (TooMany n) ≡ taskEntry s n allowed tasks name T C D
   unfolding taskEntry taskQuestions firstNo entryIf
-  task-too-many a l b g k h = simp (a .here, a .good, new-name s tasks fine (bytesOf s name) l, b .good, b .separation, b .cost, b .deadline, le-leb _ _ g, le-leb _ _ k, no-room s tasks fine (bytesOf s name) h)
+  task-too-many a l b g k h = simp (a .here, a .good, new-name s tasks fine (bytesOf s name) l, b .good, b .separation, b .cost, b .deadline, le-leb _ _ g, le-leb _ _ k, no-room s tasks fine h)
 
   pub task-enters : {t c d : ℕ} → Named allowed (bytesOf s name) → tasks .count ≤ placeOf (bytesOf s name) (namesOf s tasks) → TimesAre (bytesOf s T) (bytesOf s C) (bytesOf s D) t c d → c ≤ d → d ≤ t → tasks .count < 16 → Task name t c d ≡ taskEntry s n allowed tasks name T C D
   unfolding taskEntry taskQuestions firstNo entryIf
-  task-enters a l b g k h = simp (a .here, a .good, new-name s tasks fine (bytesOf s name) l, b .good, b .separation, b .cost, b .deadline, le-leb _ _ g, le-leb _ _ k, room s tasks fine (bytesOf s name) h)
+  task-enters a l b g k h = simp (a .here, a .good, new-name s tasks fine (bytesOf s name) l, b .good, b .separation, b .cost, b .deadline, le-leb _ _ g, le-leb _ _ k, room s tasks fine h)
 
 -- of a `lock` whose name has the place j
 module _ (s : List ℕ) (n : ℕ) (allowed : Bool) (last : TaskNumbers) (locks : Names) (name held : Span) (fine : FineNames locks) (few : locks .count ≤ 8) (j : ℕ) (at : j ≡ placeOf (bytesOf s name) (namesOf s locks)) where

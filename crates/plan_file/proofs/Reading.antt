@@ -6,7 +6,7 @@ use Prim.Native.Nat.{ℕ, suc, _+_, _≤_, _<_}
 use native.Mathlib.Nat.{add-zero}
 use native.Mathlib.Omega.{arith}
 use mathlib.Core.Path.{_≡_, refl, sym, ap, subst, _∙_}
-use mathlib.Core.Bool.{Bool, true, false, cond}
+use mathlib.Core.Bool.{Bool, true, false}
 use mathlib.Core.Logic.{_⊎_, inl, inr, _↔_}
 use mathlib.Core.List.{List, [], _∷_, _++_, append-nil}
 use borrow.Author.Tests.{leb-true, leb-false, le-leb, lt-leb}
@@ -18,9 +18,9 @@ use Rattle.refusal.specs.declared.Refusal.the-variants.{FileTooLong, Misplaced}
 use Rattle.refusal.specs.declared.Outcome.{Outcome}
 use Rattle.refusal.specs.declared.Outcome.the-variants.{Done, Refused}
 use Rattle.refusal.specs.Limits.{fileLimit}
-use Rattle.refusal.specs.Questions.{ask, firstNo, Answer, whenDone}
+use Rattle.refusal.specs.Questions.{firstNo, Answer, whenDone}
 use Rattle.refusal.specs.Questions.Answer.{answered, refused}
-use Rattle.refusal.proofs.Questions.{allYes, FirstNo, yes-next, no-answers, refused-iff, done-iff}
+use Rattle.refusal.proofs.Questions.{allYes, FirstNo, refused-iff, done-iff}
 use Rattle.records.specs.Records.{recordIn}
 use Rattle.plan_file.specs.Above.{FilePart, Above, nothingAbove, after}
 use Rattle.plan_file.specs.Reading.{isEnd, questionsAt, readLines, readFile}

@@ -11,6 +11,7 @@ use borrow.Author.Needs.{needs}
 use Rattle.plan_file.proofs.ask_part.Statement.{statement}
 use Rattle.plan_file.proofs.ask_part.Tie as tie
 
+-- behind question 5
 abbrev start : tie.Else2 → tie.Start
 start c = c .before .before .before .before .before
 
@@ -19,9 +20,11 @@ named c =
     let t : c .before .is-name .result ≡ true = not-false _ (c .if2 .left) in
     record { here = not-false (start c .args .allowed) (c .before .before .before .if1 .left); good = cc }
 
+-- behind question 6
 new : (c : tie.Else3) → let a = start (c .before .before) .args in a .parts .count ≤ placeOf (bytesOf (a .s .now) (a .name)) (namesOf (a .s .now) (a .parts))
 new c = rw (← c .before .place-in .ensures) (c .if3 .left)
 
+-- behind question 7
 number : (c : tie.After-known-told) → let a = start (c .before .before .before .before .before .before .before) .args in NumberIs (bytesOf (a .s .now) (a .period)) (c .before .p .given .0 .0)
 number c = number-is _ _ (cc)
 

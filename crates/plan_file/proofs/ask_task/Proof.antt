@@ -1,6 +1,6 @@
 -- `plan_file::ask_task` meets its contract: each way through it is a law of `Asking`.
 -- Assumes nothing.
-use Prim.Native.Nat.{_≤_, _<_}
+use Prim.Native.Nat.{_≤_}
 use mathlib.Core.Path.{_≡_}
 use mathlib.Core.Bool.{true, false}
 use borrow.Author.Tests.{not-true, not-false}
@@ -11,6 +11,7 @@ use borrow.Author.Needs.{needs}
 use Rattle.plan_file.proofs.ask_task.Statement.{statement}
 use Rattle.plan_file.proofs.ask_task.Tie as tie
 
+-- behind question 5
 abbrev start : tie.Else2 → tie.Start
 start c = c .before .before .before .before .before
 
@@ -19,9 +20,11 @@ named c =
     let t : c .before .is-name .result ≡ true = not-false _ (c .if2 .left) in
     record { here = not-false (start c .args .allowed) (c .before .before .before .if1 .left); good = cc }
 
+-- behind question 6
 new : (c : tie.Else3) → let a = start (c .before .before) .args in a .tasks .count ≤ placeOf (bytesOf (a .s .now) (a .name)) (namesOf (a .s .now) (a .tasks))
 new c = rw (← c .before .place-in .ensures) (c .if3 .left)
 
+-- behind question 7
 times : (c : tie.After-known-told) → let a = start (c .before .before .before .before .before .before) .args in let v = c .before .t .given .0 in TimesAre (bytesOf (a .s .now) (a .separation)) (bytesOf (a .s .now) (a .cost)) (bytesOf (a .s .now) (a .deadline)) (v .0) (v .1 .0) (v .1 .1 .0)
 times c = times-are _ _ _ _ _ _ (cc)
 
