@@ -1,0 +1,60 @@
+//! Times the reference on the files of bench/: nanoseconds a run, best of several.
+
+use std::hint::black_box;
+use std::time::{Duration, Instant};
+use std::{error::Error, fs, path::Path};
+
+use reference::{file, local, plan, PROGRAM_ROOM};
+
+const ROUNDS: u32 = 30;
+const ROUND: Duration = Duration::from_millis(5);
+
+/// Nanoseconds a run: several rounds of at least `ROUND` each, the best one counts.
+fn best_of<T>(mut run: impl FnMut() -> T) -> u128 {
+    let mut best = u128::MAX;
+    for _ in 0..ROUNDS {
+        let mut runs = 0;
+        let begin = Instant::now();
+        while runs == 0 || begin.elapsed() < ROUND {
+            black_box(run());
+            runs += 1;
+        }
+        best = best.min(begin.elapsed().as_nanos() / runs);
+    }
+    best
+}
+
+fn main() -> Result<(), Box<dyn Error>> {
+    let folder = Path::new(env!("CARGO_MANIFEST_DIR")).join("bench");
+    let mut paths = Vec::new();
+    for entry in fs::read_dir(folder)? {
+        let path = entry?.path();
+        if path
+            .extension()
+            .is_some_and(|extension| extension == "plan")
+        {
+            paths.push(path);
+        }
+    }
+    paths.sort();
+    println!("ns a run                read      candidates        plan");
+    for path in paths {
+        let bytes = fs::read(&path)?;
+        let name = path
+            .file_name()
+            .unwrap_or_default()
+            .to_string_lossy()
+            .into_owned();
+        let read = best_of(|| file::read(black_box(&bytes)));
+        let parts = file::read(&bytes).map_err(|refusal| format!("{name}: {refusal:?}"))?;
+        let candidates = best_of(|| {
+            black_box(&parts)
+                .iter()
+                .map(local::candidates)
+                .collect::<Vec<_>>()
+        });
+        let planned = best_of(|| plan(black_box(&bytes), PROGRAM_ROOM));
+        println!("{name:<16}{read:>12}{candidates:>16}{planned:>12}");
+    }
+    Ok(())
+}

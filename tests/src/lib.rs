@@ -1,0 +1,104 @@
+//! An independent reference of the planner: the same operations in plain Rust, written from the
+//! scope (docs/PAPER-01.md) and not from the definitions that the proofs use.
+//!
+//! - [`file`]: the plan file and questions 1 to 9
+//! - [`local`]: supply, holding times, blocking, the least budget, the kept list of one part
+//! - [`system`]: rows, bounds, loads, weighing, the selection of least load
+//! - [`listing`]: the printed bytes
+//! - [`literal`]: all of it again by brute force, for small files
+//! - [`random`]: made-up plan files
+//!
+//! This page has the operations that a caller may use with any input.
+
+use std::ops::Range;
+
+pub mod file;
+pub mod listing;
+pub mod literal;
+pub mod local;
+pub mod random;
+pub mod system;
+
+use file::LARGEST_NUMBER;
+use local::{Local, Pair};
+use system::{Candidates, Row};
+
+pub use system::weigh;
+
+/// Bytes that the program lends for its listing.
+pub const PROGRAM_ROOM: usize = 8192;
+
+/// The number of the question that has the answer no, and its place.
+#[derive(Clone, Copy, Debug, PartialEq, Eq)]
+pub struct Refusal {
+    pub number: u32,
+    pub place: usize,
+}
+
+/// A refusal as an `Err`.
+fn refuse<T>(number: u32, place: usize) -> Result<T, Refusal> {
+    Err(Refusal { number, place })
+}
+
+/// The listing of the plan of least load, if it fits `room` bytes.
+/// Questions 1 to 11, then 14.
+pub fn plan(file: &[u8], room: usize) -> Result<Vec<u8>, Refusal> {
+    let parts = file::read(file)?;
+    let locals: Vec<Local> = parts.iter().map(Local::new).collect();
+    let mut candidates = Vec::with_capacity(parts.len());
+    for (index, local) in locals.iter().enumerate() {
+        let pairs = local.candidates();
+        if pairs.is_empty() {
+            return refuse(10, index + 1);
+        }
+        let period = parts[index].period;
+        candidates.push(Candidates { period, pairs });
+    }
+    let Some((rows, weighing)) = system::select(&candidates) else {
+        return refuse(11, 0);
+    };
+    let ceilings = |part: usize, row: &Row| locals[part].ceilings(row.holding);
+    let listing = listing::of_plan(&parts, &rows, &weighing, ceilings);
+    if listing.len() > room {
+        return refuse(14, 0);
+    }
+    Ok(listing)
+}
+
+/// The kept list of one part of the file, parts counted from 1.
+/// Questions 1 to 9, 12, then 10 for that part alone.
+pub fn candidates(file: &[u8], part: usize) -> Result<Vec<Pair>, Refusal> {
+    let parts = file::read(file)?;
+    let Some(index) = part.checked_sub(1).filter(|&i| i < parts.len()) else {
+        return refuse(12, 0);
+    };
+    let pairs = local::candidates(&parts[index]);
+    if pairs.is_empty() {
+        return refuse(10, part);
+    }
+    Ok(pairs)
+}
+
+/// The stretch of the file that is the name of the part, parts counted from 1.
+/// Questions 1 to 9, then 12.
+pub fn name(file: &[u8], part: usize) -> Result<Range<usize>, Refusal> {
+    let parts = file::read(file)?;
+    match part.checked_sub(1).and_then(|index| parts.get(index)) {
+        Some(part) => Ok(part.name_start..part.name_start + part.name.bytes.len()),
+        None => refuse(12, 0),
+    }
+}
+
+/// The supply of a budget in a server period over `time` ticks, numbers set by hand. Question 12.
+pub fn supply_answer(period: u64, budget: u64, time: u64) -> Result<u64, Refusal> {
+    let in_range = 1 <= budget && budget <= period && period <= LARGEST_NUMBER;
+    if !in_range || time > LARGEST_NUMBER {
+        return refuse(12, 0);
+    }
+    Ok(local::supply(period, budget, time))
+}
+
+/// What the program prints for the file on its standard input.
+pub fn printed(file: &[u8]) -> Vec<u8> {
+    plan(file, PROGRAM_ROOM).unwrap_or_else(listing::of_refusal)
+}

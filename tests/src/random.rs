@@ -1,0 +1,387 @@
+//! Made-up plan files from a fixed seed.
+
+use std::ops::RangeInclusive;
+
+use crate::file::{LARGEST_NUMBER, LONGEST_FILE};
+
+/// A xorshift generator.
+pub struct Random(u64);
+
+impl Random {
+    pub fn new(seed: u64) -> Self {
+        // The state may not be zero.
+        Random(seed.wrapping_mul(0x9e37_79b9_7f4a_7c15) | 1)
+    }
+
+    pub fn number(&mut self) -> u64 {
+        self.0 ^= self.0 << 13;
+        self.0 ^= self.0 >> 7;
+        self.0 ^= self.0 << 17;
+        self.0.wrapping_mul(0x2545_f491_4f6c_dd1d) >> 16
+    }
+
+    pub fn within(&mut self, range: RangeInclusive<u64>) -> u64 {
+        let (low, high) = range.into_inner();
+        low + self.number() % (high.saturating_sub(low) + 1)
+    }
+
+    pub fn index(&mut self, len: usize) -> usize {
+        self.within(0..=len.saturating_sub(1) as u64) as usize
+    }
+
+    /// True once in `times`.
+    pub fn once_in(&mut self, times: u64) -> bool {
+        self.number().is_multiple_of(times)
+    }
+}
+
+/// What a made-up file is like.
+#[derive(Clone, Debug)]
+pub struct Sizes {
+    pub parts: RangeInclusive<u64>,
+    pub tasks: RangeInclusive<u64>,
+    /// Lock names that a part draws from.
+    pub locks: RangeInclusive<u64>,
+    pub period: RangeInclusive<u64>,
+    /// Separations, in periods.
+    pub separation: RangeInclusive<u64>,
+    /// Percent of the processor that all tasks together ask for, about.
+    pub utilisation: RangeInclusive<u64>,
+}
+
+impl Sizes {
+    /// Two parts, small enough for brute force over all choices.
+    pub fn two_parts() -> Self {
+        Sizes {
+            parts: 2..=2,
+            tasks: 1..=5,
+            locks: 0..=2,
+            period: 5..=36,
+            separation: 3..=9,
+            utilisation: 5..=60,
+        }
+    }
+
+    /// Three parts, small enough for brute force over all choices.
+    pub fn three_parts() -> Self {
+        Sizes {
+            parts: 3..=3,
+            tasks: 1..=3,
+            locks: 0..=2,
+            period: 5..=10,
+            separation: 3..=9,
+            utilisation: 5..=20,
+        }
+    }
+
+    /// One part, small enough for brute force over its settings.
+    pub fn one_part() -> Self {
+        Sizes {
+            parts: 1..=1,
+            tasks: 1..=5,
+            locks: 0..=3,
+            period: 2..=30,
+            separation: 2..=8,
+            utilisation: 10..=80,
+        }
+    }
+
+    /// Up to the limits of a plan file.
+    pub fn full() -> Self {
+        Sizes {
+            parts: 1..=16,
+            tasks: 1..=16,
+            locks: 0..=8,
+            period: 20..=6000,
+            separation: 4..=60,
+            utilisation: 3..=40,
+        }
+    }
+}
+
+/// A readable plan file.
+pub fn valid(random: &mut Random, sizes: &Sizes) -> Vec<u8> {
+    let parts = random.within(sizes.parts.clone());
+    let percent = random.within(sizes.utilisation.clone()) as f64 / parts as f64;
+    let mut periods: Vec<u64> = (0..parts)
+        .map(|_| random.within(sizes.period.clone()))
+        .collect();
+    // Mostly, a shorter period has a higher priority.
+    if !random.once_in(4) {
+        falling(&mut periods);
+    }
+    // Mostly, no lock is held for longer than the shortest period can bear.
+    let shortest = periods.iter().copied().min().unwrap_or(1);
+    let longest_held = if random.once_in(4) {
+        LARGEST_NUMBER
+    } else {
+        (2 * shortest / (parts + 2)).max(1)
+    };
+
+    let mut file = String::new();
+    for (index, &period) in (0..).zip(&periods) {
+        file += &format!("part\t{}\t{period}\n", name(random, 'p', index));
+        let first = index == 0;
+        let tasks = if random.once_in(4) == first {
+            plain_tasks(random, sizes, period, percent)
+        } else {
+            tight_tasks(random, sizes, period, parts)
+        };
+        let locks = random.within(sizes.locks.clone()).max(random.within(0..=1));
+        for (index, task) in (0..).zip(&tasks) {
+            let Task {
+                separation,
+                execution,
+                deadline,
+                ..
+            } = task;
+            let name = name(random, 't', index);
+            file += &format!("task\t{name}\t{separation}\t{execution}\t{deadline}\n");
+            let most = longest_held.min(*execution);
+            // The same few names in all parts, not always first mentioned in order.
+            let first = random.within(0..=7);
+            for lock in (0..locks).map(|lock| (first + lock) % locks) {
+                if random.once_in(task.lock_once_in) {
+                    let held = if random.once_in(2) {
+                        most
+                    } else {
+                        random.within(1..=most)
+                    };
+                    file += &format!("lock\tl{lock}\t{held}\n");
+                }
+            }
+        }
+    }
+    file += "end\n";
+    file.into_bytes()
+}
+
+struct Task {
+    separation: u64,
+    execution: u64,
+    deadline: u64,
+    /// The task uses one in so many locks.
+    lock_once_in: u64,
+}
+
+/// Tasks that together ask for about so many percent of the processor.
+fn plain_tasks(random: &mut Random, sizes: &Sizes, period: u64, percent: f64) -> Vec<Task> {
+    let separations = separations(random, sizes, period);
+    let fair = percent / 100.0 / separations.len() as f64;
+    let task = |separation| {
+        let most = (2.0 * fair * separation as f64) as u64;
+        let execution = random.within(1..=most).min(separation);
+        let deadline = match random.within(0..=2) {
+            0 => random.within(execution..=separation),
+            1 => random.within((execution + separation).div_ceil(2)..=separation),
+            _ => separation,
+        };
+        Task {
+            separation,
+            execution,
+            deadline,
+            lock_once_in: 3,
+        }
+    };
+    separations.into_iter().map(task).collect()
+}
+
+/// Tasks that make a long list of candidates, as a higher ceiling costs budget: the lowest ones
+/// hold locks for long, the others are short and their deadlines tight, the tighter the higher.
+fn tight_tasks(random: &mut Random, sizes: &Sizes, period: u64, parts: u64) -> Vec<Task> {
+    let separations = separations(random, sizes, period);
+    let count = separations.len();
+    let mut deadlines: Vec<u64> = (0..count)
+        .map(|_| random.within(period..=5 * period))
+        .collect();
+    falling(&mut deadlines);
+    let task = |(index, separation): (usize, u64)| {
+        let lowest = index <= count / 5;
+        let execution = if lowest {
+            random
+                .within(period / (4 + 2 * parts)..=2 * period / (4 + parts))
+                .max(1)
+        } else {
+            random.within(1..=(period / 100).max(1))
+        };
+        let deadline = if lowest { separation } else { deadlines[index] };
+        Task {
+            separation,
+            execution: execution.min(separation),
+            deadline: deadline.clamp(execution.min(separation), separation),
+            lock_once_in: if lowest { 2 } else { 16 },
+        }
+    };
+    separations.into_iter().enumerate().map(task).collect()
+}
+
+/// Separations for the tasks of one part; mostly, a shorter one has a higher priority.
+fn separations(random: &mut Random, sizes: &Sizes, period: u64) -> Vec<u64> {
+    let count = random.within(sizes.tasks.clone());
+    let separation = |_| {
+        let periods = random.within(sizes.separation.clone());
+        (periods * period + random.within(0..=period - 1)).min(LARGEST_NUMBER)
+    };
+    let mut separations: Vec<u64> = (0..count).map(separation).collect();
+    if !random.once_in(4) {
+        falling(&mut separations);
+    }
+    separations
+}
+
+fn falling(numbers: &mut [u64]) {
+    numbers.sort_unstable_by(|a, b| b.cmp(a));
+}
+
+/// A name that is new for its index, sometimes of full length.
+fn name(random: &mut Random, letter: char, index: u64) -> String {
+    if random.once_in(8) {
+        format!("{letter}{index:07}")
+    } else {
+        format!("{letter}{index}")
+    }
+}
+
+/// The file with one or a few faults: bytes changed, put in or taken out, lines doubled, dropped
+/// or swapped, numbers made long, the end cut off.
+pub fn damaged(random: &mut Random, file: &[u8]) -> Vec<u8> {
+    let mut bytes = file.to_vec();
+    for _ in 0..random.within(1..=2) {
+        damage(random, &mut bytes);
+    }
+    bytes
+}
+
+fn damage(random: &mut Random, bytes: &mut Vec<u8>) {
+    if bytes.is_empty() {
+        return;
+    }
+    let place = random.index(bytes.len());
+    match random.within(0..=11) {
+        0 => bytes[place] = odd_byte(random),
+        1 => bytes.insert(place, odd_byte(random)),
+        2 => {
+            bytes.remove(place);
+        }
+        3 => bytes.truncate(place),
+        4 => bytes.extend_from_slice(match random.within(0..=3) {
+            0 => b"\n",
+            1 => b"end\n",
+            2 => b"x",
+            _ => b"part\tq\t9\n",
+        }),
+        5 => {
+            if let Some(at) = bytes.iter().skip(place).position(u8::is_ascii_digit) {
+                let number = odd_number(random);
+                let start = place + at;
+                let digits = bytes[start..]
+                    .iter()
+                    .take_while(|byte| byte.is_ascii_digit())
+                    .count();
+                bytes.splice(start..start + digits, number);
+            }
+        }
+        6 if random.once_in(8) => bytes.resize(LONGEST_FILE + random.index(3), b'x'),
+        7 => {
+            // A run of new names, sometimes one too many.
+            let lines = bytes[..place].iter().rposition(|&byte| byte == b'\n');
+            let start = lines.map_or(0, |end| end + 1);
+            let kind = random.index(3);
+            let run: String = (0..random.within(1..=18))
+                .map(|k| match kind {
+                    0 => format!("part\tn{k}\t9\ntask\tn\t9\t1\t9\n"),
+                    1 => format!("task\tn{k}\t9\t1\t9\n"),
+                    _ => format!("lock\tn{k}\t1\n"),
+                })
+                .collect();
+            bytes.splice(start..start, run.into_bytes());
+        }
+        _ => {
+            let mut lines: Vec<Vec<u8>> = bytes
+                .split_inclusive(|&byte| byte == b'\n')
+                .map(<[u8]>::to_vec)
+                .collect();
+            let (one, other) = (random.index(lines.len()), random.index(lines.len()));
+            match random.within(0..=2) {
+                0 => lines.insert(other, lines[one].clone()),
+                1 => {
+                    lines.remove(one);
+                }
+                _ => lines.swap(one, other),
+            }
+            *bytes = lines.concat();
+        }
+    }
+}
+
+fn odd_byte(random: &mut Random) -> u8 {
+    const OFTEN: &[u8] = b"\t\t\n\n\r 0195az_A-+.*\x00\x1f\x20\x21\x7e\x7f\xff";
+    if random.once_in(4) {
+        random.within(0..=255) as u8
+    } else {
+        OFTEN[random.index(OFTEN.len())]
+    }
+}
+
+/// A number that is too great, or close to it, or badly written.
+fn odd_number(random: &mut Random) -> Vec<u8> {
+    match random.within(0..=8) {
+        0 => b"65535".to_vec(),
+        1 => b"65536".to_vec(),
+        2 => b"0".to_vec(),
+        3 => b"010".to_vec(),
+        4 => b"4294967297".to_vec(),
+        5 => b"18446744073709551617".to_vec(),
+        6 => b"+5".to_vec(),
+        7 => vec![b'9'; random.index(LONGEST_FILE + 2)],
+        _ => random.number().to_string().into_bytes(),
+    }
+}
+
+/// Rows for weighing, now and then with a fault.
+pub fn rows(random: &mut Random, most: u64, longest: u64) -> Vec<(u64, u64, u64)> {
+    let count = random.within(1..=most);
+    let mut rows = Vec::new();
+    for _ in 0..count {
+        let period = random.within(1..=longest);
+        let budget = random.within(1..=(period / count).max(1));
+        let holding = if random.once_in(3) {
+            0
+        } else {
+            random.within(0..=(period / 8))
+        };
+        rows.push((period, budget, holding));
+    }
+    if random.once_in(20) {
+        let row = random.index(rows.len());
+        rows[row] = match random.within(0..=3) {
+            0 => (0, 0, 0),
+            1 => (9, 10, 0),
+            2 => (9, 0, 0),
+            _ => (9, 9, 65_536),
+        };
+    }
+    rows
+}
+
+/// A list like a kept one: in falling holding time, budget and sum rising.
+pub fn kept_list(random: &mut Random, most: u64, period: u64) -> Vec<(u64, u64)> {
+    let count = random.within(1..=most);
+    let mut holding = random.within(count - 1..=count + period / 4);
+    let mut sum = holding + random.within(1..=(period / 6).max(1));
+    let mut pairs = Vec::new();
+    for left in (0..count).rev() {
+        if sum - holding > period {
+            break;
+        }
+        pairs.push((sum - holding, holding));
+        if left > 0 {
+            holding = random.within(left - 1..=holding - 1);
+            sum += random.within(1..=(period / 12).max(1));
+        }
+    }
+    if pairs.is_empty() {
+        pairs.push((1, 0));
+    }
+    pairs
+}

@@ -1,0 +1,852 @@
+//! The fast reference against the expected listings, against brute force, and against the
+//! readings of the paper's open places.
+
+use std::fs;
+use std::path::{Path, PathBuf};
+
+use reference::file::{self, Part, LONGEST_FILE};
+use reference::local::{self, Local, Pair};
+use reference::random::{self, Random, Sizes};
+use reference::system::{self, Candidates, Row, Weighing};
+use reference::{candidates, literal, name, plan, printed, supply_answer, weigh};
+use reference::{Refusal, PROGRAM_ROOM};
+
+// ---- helpers ----
+
+/// A file from its lines; blanks stand for tabs.
+fn w<S: AsRef<str>>(lines: &[S]) -> Vec<u8> {
+    let line = |line: &S| line.as_ref().replace(' ', "\t") + "\n";
+    lines.iter().map(line).collect::<String>().into_bytes()
+}
+
+/// Number and place of a plan in the program's room; (0,0) if there is one.
+fn planned(file: &[u8]) -> (u32, usize) {
+    number_and_place(plan(file, PROGRAM_ROOM))
+}
+
+fn number_and_place<T>(answer: Result<T, Refusal>) -> (u32, usize) {
+    answer
+        .err()
+        .map_or((0, 0), |refusal| (refusal.number, refusal.place))
+}
+
+fn tuple(refusal: Refusal) -> literal::Refusal {
+    (refusal.number, refusal.place)
+}
+
+fn signed(pairs: &[Pair]) -> Vec<(i64, i64)> {
+    pairs
+        .iter()
+        .map(|pair| (pair.budget as i64, pair.holding as i64))
+        .collect()
+}
+
+fn rows(rows: &[(u64, u64, u64)]) -> Vec<Row> {
+    let row = |&(period, budget, holding): &(u64, u64, u64)| Row {
+        period,
+        budget,
+        holding,
+    };
+    rows.iter().map(row).collect()
+}
+
+fn signed_rows(rows: &[Row]) -> Vec<literal::Row> {
+    rows.iter()
+        .map(|row| (row.period as i64, row.budget as i64, row.holding as i64))
+        .collect()
+}
+
+/// Bounds, the load's row from 1, and the load.
+fn signed_weighing(weighing: &Weighing) -> (Vec<(i64, i64)>, usize, (i64, i64)) {
+    let fraction = |bound: &system::Bound| (bound.demand as i64, bound.time as i64);
+    let bounds = weighing.bounds.iter().map(fraction).collect();
+    (bounds, weighing.row + 1, fraction(&weighing.load()))
+}
+
+/// The kept list of a part as pairs (Q,X).
+fn kept(file: &[u8], part: usize) -> Vec<(i64, i64)> {
+    signed(&candidates(file, part).expect("a kept list"))
+}
+
+/// Bounds, the load's row from 1, and the load, of rows (P,Q,X).
+fn weighed(list: &[(u64, u64, u64)]) -> (Vec<(i64, i64)>, usize, (i64, i64)) {
+    signed_weighing(&weigh(&rows(list)).expect("a load"))
+}
+
+/// Number and place of weighing rows (P,Q,X).
+fn unweighed(list: &[(u64, u64, u64)]) -> (u32, usize) {
+    number_and_place(weigh(&rows(list)))
+}
+
+fn lossy(bytes: &[u8]) -> String {
+    String::from_utf8_lossy(bytes).into_owned()
+}
+
+// ---- the expected listings ----
+
+/// Every case: its name, its file and what the program must print.
+fn cases() -> Vec<(PathBuf, Vec<u8>, Vec<u8>)> {
+    let top = Path::new(env!("CARGO_MANIFEST_DIR")).join("cases");
+    let mut cases = Vec::new();
+    for folder in ["small", "full"] {
+        for entry in fs::read_dir(top.join(folder)).expect("the folder of cases") {
+            let path = entry.expect("an entry").path();
+            if path
+                .extension()
+                .is_some_and(|extension| extension == "plan")
+            {
+                let file = fs::read(&path).expect("a plan file");
+                let expected = fs::read(path.with_extension("expected")).expect("a listing");
+                cases.push((path, file, expected));
+            }
+        }
+    }
+    cases.sort();
+    cases
+}
+
+#[test]
+fn every_case_prints_its_expected_listing() {
+    let cases = cases();
+    assert!(cases.len() >= 256, "only {} cases", cases.len());
+    for (path, file, expected) in cases {
+        assert_eq!(
+            lossy(&printed(&file)),
+            lossy(&expected),
+            "{}",
+            path.display()
+        );
+    }
+}
+
+// ---- the fast reference against brute force ----
+
+/// A part in the form of the literal reader.
+fn by_name(part: &Part) -> literal::Part {
+    let text = |name: &[u8]| lossy(name);
+    let task = |task: &file::Task| literal::Task {
+        name: text(task.name.bytes),
+        separation: task.separation as i64,
+        execution: task.execution as i64,
+        deadline: task.deadline as i64,
+        locks: {
+            let locks = part.locks_of(task);
+            let mut locks: Vec<_> = locks.iter().map(|&(l, c)| (text(l), c as i64)).collect();
+            locks.sort();
+            locks
+        },
+    };
+    literal::Part {
+        name: text(part.name.bytes),
+        period: part.period as i64,
+        tasks: part.tasks.iter().map(task).collect(),
+    }
+}
+
+/// The same parts, lock names in the same order of first mention; or the same refusal.
+fn same_reading(bytes: &[u8]) -> (u32, usize) {
+    let fast = file::read(bytes);
+    let slow = literal::read(bytes);
+    match (&fast, slow) {
+        (Ok(fast), Ok(mut slow)) => {
+            for (fast, slow) in fast.iter().zip(&slow) {
+                let names: Vec<String> = fast.locks.iter().map(|name| lossy(name.bytes)).collect();
+                assert_eq!(names, slow.locks(), "{}", lossy(bytes));
+            }
+            for task in slow.iter_mut().flat_map(|part| &mut part.tasks) {
+                task.locks.sort();
+            }
+            let fast: Vec<literal::Part> = fast.iter().map(by_name).collect();
+            assert_eq!(fast, slow, "{}", lossy(bytes));
+        }
+        (Err(fast), Err(slow)) => assert_eq!(tuple(*fast), slow, "{}", lossy(bytes)),
+        (fast, slow) => panic!("{fast:?}\n{slow:?}\n{}", lossy(bytes)),
+    }
+    for part in 0..4 {
+        let fast = name(bytes, part)
+            .map(|stretch| (stretch.start, stretch.end))
+            .map_err(tuple);
+        assert_eq!(fast, literal::name(bytes, part), "{}", lossy(bytes));
+    }
+    number_and_place(fast)
+}
+
+#[test]
+fn damaged_files_are_read_alike() {
+    let mut random = Random::new(1);
+    let mut seen = [0; 10];
+    for round in 0..6000 {
+        let sizes = match round % 40 {
+            0 => Sizes::full(),
+            1..=10 => Sizes::three_parts(),
+            _ => Sizes::two_parts(),
+        };
+        let file = random::valid(&mut random, &sizes);
+        seen[same_reading(&random::damaged(&mut random, &file)).0 as usize] += 1;
+    }
+    let unseen: Vec<usize> = (0..10).filter(|&number| seen[number] == 0).collect();
+    assert!(
+        unseen.is_empty(),
+        "no file with refusals {unseen:?}: {seen:?}"
+    );
+}
+
+#[test]
+fn counts_at_their_limits_are_read_alike() {
+    for parts in 15..=18 {
+        for tasks in 15..=18 {
+            for locks in 7..=10 {
+                let mut lines = Vec::new();
+                for part in 0..parts {
+                    lines.push(format!("part p{part} 9"));
+                    for task in 0..if part == 1 { tasks } else { 1 } {
+                        lines.push(format!("task t{task} 9 2 9"));
+                        for lock in 0..if part + 1 == parts { locks } else { 0 } {
+                            lines.push(format!("lock l{lock} 1"));
+                        }
+                    }
+                }
+                lines.push("end".into());
+                let number = same_reading(&w(&lines)).0;
+                let within = parts <= 16 && tasks <= 16 && locks <= 8;
+                assert_eq!(number, if within { 0 } else { 9 });
+            }
+        }
+    }
+}
+
+/// What a batch of files was like.
+#[derive(Debug, Default)]
+struct Seen {
+    planned: usize,
+    refused_10: usize,
+    refused_11: usize,
+    longer_lists: usize,
+    later_pairs: usize,
+}
+
+#[test]
+fn small_plans_equal_brute_force() {
+    let mut random = Random::new(2);
+    let mut seen = Seen::default();
+    for round in 0..3000 {
+        let sizes = match round % 6 {
+            0 => Sizes::one_part(),
+            1 => Sizes::three_parts(),
+            _ => Sizes::two_parts(),
+        };
+        let file = random::valid(&mut random, &sizes);
+        let slow = literal::plan(&file, PROGRAM_ROOM);
+        let fast = plan(&file, PROGRAM_ROOM);
+        match (&fast, &slow) {
+            (Ok(_), _) => seen.planned += 1,
+            (Err(Refusal { number: 10, .. }), _) => seen.refused_10 += 1,
+            (Err(_), _) => seen.refused_11 += 1,
+        }
+        assert_eq!(
+            fast.map(|listing| lossy(&listing)).map_err(tuple),
+            slow,
+            "{}",
+            lossy(&file)
+        );
+
+        let parts = file::read(&file).expect("a readable file");
+        for (number, part) in (1..).zip(&parts) {
+            let fast = candidates(&file, number)
+                .map(|pairs| signed(&pairs))
+                .map_err(tuple);
+            assert_eq!(fast, literal::candidates(&file, number), "{}", lossy(&file));
+            let pairs = local::candidates(part);
+            seen.longer_lists += usize::from(pairs.len() > 1);
+            if let (Ok(listing), Some(first)) = (&slow, pairs.first()) {
+                let share = format!(
+                    "share\t{}\t{}\t{}\t{}\t",
+                    lossy(part.name.bytes),
+                    part.period,
+                    first.budget,
+                    first.holding
+                );
+                seen.later_pairs += usize::from(!listing.contains(&share));
+            }
+        }
+    }
+    println!("{seen:?}");
+    let Seen {
+        planned,
+        refused_10,
+        refused_11,
+        longer_lists,
+        later_pairs,
+    } = seen;
+    assert!(planned > 500 && refused_10 > 100 && refused_11 > 100);
+    assert!(longer_lists > 100 && later_pairs > 10);
+}
+
+#[test]
+fn lists_and_ceilings_of_one_part_equal_brute_force() {
+    let mut random = Random::new(3);
+    let mut longest = 0;
+    for _ in 0..700 {
+        let file = random::valid(&mut random, &Sizes::one_part());
+        let parts = file::read(&file).expect("a readable file");
+        let slow = literal::read(&file).expect("a readable file").remove(0);
+        let local = Local::new(&parts[0]);
+        let pairs = local.candidates();
+        assert_eq!(signed(&pairs), slow.kept(), "{}", lossy(&file));
+        for pair in &pairs {
+            let ceilings = local.ceilings(pair.holding);
+            let shown = slow.ceilings_shown(pair.holding as i64);
+            assert!(
+                shown.iter().map(|&(_, r)| r).eq(ceilings.iter().copied()),
+                "{}",
+                lossy(&file)
+            );
+            let fast = local::blockings(&parts[0], &ceilings);
+            for (i, &blocking) in (1..=slow.tasks.len()).zip(&fast) {
+                assert_eq!(
+                    blocking as i64,
+                    slow.blocking(&shown, i),
+                    "{}",
+                    lossy(&file)
+                );
+            }
+        }
+        assert!(
+            pairs.len() <= parts[0].tasks.len().max(1),
+            "more pairs than tasks"
+        );
+        longest = longest.max(pairs.len());
+    }
+    assert!(longest >= 4, "no list longer than {longest}");
+}
+
+#[test]
+fn weighing_equals_brute_force() {
+    let mut random = Random::new(4);
+    let mut seen = [0; 14];
+    for round in 0..6000 {
+        let longest = [20, 100, 700][round % 3];
+        let list = random::rows(&mut random, 6, longest);
+        let fast = weigh(&rows(&list));
+        seen[number_and_place(fast.clone()).0 as usize] += 1;
+        let slow: Vec<literal::Row> = list
+            .iter()
+            .map(|&(p, q, x)| (p as i64, q as i64, x as i64))
+            .collect();
+        let fast = fast
+            .map(|weighing| signed_weighing(&weighing))
+            .map_err(tuple);
+        assert_eq!(fast, literal::weigh(&slow), "{list:?}");
+    }
+    assert!(
+        seen[0] > 1000 && seen[12] > 100 && seen[13] > 1000,
+        "{seen:?}"
+    );
+}
+
+#[test]
+fn selection_from_made_up_lists_equals_brute_force() {
+    let mut random = Random::new(5);
+    let (mut passed, mut failed) = (0, 0);
+    for _ in 0..2000 {
+        let mut parts = Vec::new();
+        let mut lists = Vec::new();
+        for _ in 0..random.within(1..=4) {
+            let period = random.within(8..=60);
+            let pairs = random::kept_list(&mut random, 4, period);
+            let signed = pairs.iter().map(|&(q, x)| (q as i64, x as i64)).collect();
+            lists.push((period as i64, signed));
+            let pair = |(budget, holding)| Pair { budget, holding };
+            parts.push(Candidates {
+                period,
+                pairs: pairs.into_iter().map(pair).collect(),
+            });
+        }
+        let slow = literal::greatest_of_least_load(&lists);
+        let fast = system::select(&parts);
+        match &fast {
+            Some((rows, weighing)) => {
+                assert_eq!(weigh(rows).as_ref(), Ok(weighing));
+                passed += 1;
+            }
+            None => failed += 1,
+        }
+        assert_eq!(fast.map(|(rows, _)| signed_rows(&rows)), slow, "{parts:?}");
+    }
+    assert!(
+        passed > 500 && failed > 100,
+        "{passed} passed, {failed} failed"
+    );
+}
+
+#[test]
+fn supply_equals_the_papers_words() {
+    for period in 1..=24 {
+        for budget in 1..=period {
+            for time in 0..=5 * period + 3 {
+                let slow = literal::supply(period as i64, budget as i64, time as i64);
+                assert_eq!(supply_answer(period, budget, time), Ok(slow as u64));
+            }
+        }
+    }
+}
+
+#[test]
+fn larger_files_get_answers_that_hold() {
+    let mut random = Random::new(6);
+    let mut planned = 0;
+    for _ in 0..150 {
+        let file = random::valid(&mut random, &Sizes::full());
+        let Ok(parts) = file::read(&file) else {
+            assert!(file.len() > LONGEST_FILE);
+            continue;
+        };
+        // Every kept list rises in budget and sum and falls in holding time.
+        for part in &parts {
+            let pairs = local::candidates(part);
+            for pair in pairs.windows(2) {
+                assert!(pair[0].holding > pair[1].holding && pair[0].sum() < pair[1].sum());
+            }
+        }
+        // A listing fits exactly from its own length on.
+        if let Ok(listing) = plan(&file, PROGRAM_ROOM) {
+            planned += 1;
+            assert_eq!(plan(&file, listing.len()).as_ref(), Ok(&listing));
+            assert_eq!(number_and_place(plan(&file, listing.len() - 1)), (14, 0));
+        }
+    }
+    assert!(planned > 10, "{planned} planned");
+}
+
+// ---- the examples of the paper ----
+
+const A: [&str; 8] = [
+    "part card 20",
+    "task copy 80 8 80",
+    "lock buf 2",
+    "part print 10",
+    "task feed 60 6 60",
+    "lock buf 3",
+    "task head 30 2 30",
+    "end",
+];
+
+/// A with another period of card.
+fn a_with_card(period: u64) -> Vec<u8> {
+    let mut lines = A.map(String::from);
+    lines[0] = format!("part card {period}");
+    w(&lines)
+}
+
+/// The first line of the listing.
+fn load_line(file: &[u8]) -> String {
+    let listing = lossy(&plan(file, PROGRAM_ROOM).expect("a plan"));
+    listing
+        .lines()
+        .next()
+        .unwrap_or_default()
+        .replace('\t', " ")
+}
+
+#[test]
+fn examples_a_to_l() {
+    let listing = w(&[
+        "load card 17 20",
+        "share card 20 3 2 17 20",
+        "ceiling buf 1",
+        "share print 10 3 3 8 10",
+        "ceiling buf 2",
+    ]);
+    assert_eq!(lossy(&printed(&w(&A))), lossy(&listing)); // A
+    let slow = &literal::read(&w(&A)).expect("A is readable")[1];
+    let low = vec![("buf".to_string(), 1)];
+    assert_eq!(slow.holding_time(&low), Some(5)); // B: (2,5) is a candidate, not kept
+    assert!(slow.passes(&low, 2) && !slow.passes(&low, 1));
+    assert_eq!(kept(&w(&A), 2), [(3, 3)]);
+    assert_eq!(load_line(&a_with_card(10)), "load card 10 10"); // C
+    assert_eq!(load_line(&a_with_card(9)), "load card 9 9"); // D
+    assert_eq!(planned(&a_with_card(8)), (11, 0)); // E
+    let table_1 = w(&[
+        "part s 250",
+        "task t1 1500 16 1500",
+        "lock r2 8",
+        "task t2 1300 100 1300",
+        "lock r1 10",
+        "task t3 1200 20 1200",
+        "task t4 1000 70 1000",
+        "lock r1 20",
+        "task t5 320 2 320",
+        "task t6 300 4 300",
+        "end",
+    ]);
+    assert_eq!(kept(&table_1, 1), [(102, 26), (105, 24), (112, 20)]); // F
+    assert_eq!(
+        weighed(&[(96, 2, 2), (20, 2, 1)]),
+        (vec![(19, 96), (5, 20)], 2, (5, 20))
+    ); // G
+    assert_eq!(planned(b""), (4, 1)); // H
+    assert_eq!(
+        printed(&w(&["part p 10", "task t 10 10 10", "end"])),
+        w(&["load p 10 10", "share p 10 10 0 10 10"])
+    ); // I
+    assert_eq!(
+        planned(&w(&[
+            "part p 10",
+            "task t 10 6 10",
+            "task u 10 6 10",
+            "end"
+        ])),
+        (10, 1)
+    ); // J
+    let supplies = [14, 15, 17, 24, 25].map(|time| supply_answer(10, 3, time));
+    assert_eq!(supplies, [0, 1, 3, 3, 4].map(Ok)); // K
+    assert_eq!(planned(&w(&["part p 65535"])), (4, 2)); // L
+    assert_eq!(planned(&w(&["part p 65536"])), (7, 1));
+    assert_eq!(planned(&w(&["part p 010"])), (7, 1));
+    assert_eq!(lossy(&printed(b"")), "refused\t4\t1\n");
+}
+
+// ---- readings of the plan file ----
+
+/// One part with one good task.
+const P_AND_T: [&str; 2] = ["part p 10", "task t 20 1 20"];
+
+/// The lines of `P_AND_T`, then these.
+fn after_p_and_t(lines: &[&str]) -> Vec<u8> {
+    w(&[&P_AND_T, lines].concat())
+}
+
+#[test]
+fn r1_a_last_line_without_byte_10() {
+    assert_eq!(planned(b"part\tp\t10"), (2, 1));
+    assert_eq!(planned(b"part\tp\t10\n"), (4, 2));
+    assert_eq!(planned(&[w(&P_AND_T), b"end".to_vec()].concat()), (2, 3));
+    assert_eq!(planned(b""), (4, 1));
+}
+
+#[test]
+fn r2_what_follows_end() {
+    assert_eq!(
+        planned(&[after_p_and_t(&["end"]), b"x".to_vec()].concat()),
+        (2, 4)
+    );
+    assert_eq!(planned(&after_p_and_t(&["end", ""])), (3, 4));
+    assert_eq!(planned(&after_p_and_t(&["end", "end"])), (4, 4));
+}
+
+#[test]
+fn r3_empty_lines() {
+    assert_eq!(planned(b"\n"), (3, 1));
+    assert_eq!(planned(b"\t\n"), (3, 1));
+}
+
+#[test]
+fn r4_question_3_before_4_before_the_others() {
+    assert_eq!(planned(&w(&["task T 0 0"])), (3, 1));
+    assert_eq!(planned(&w(&["task T 0 0 0"])), (4, 1));
+    assert_eq!(planned(&w(&["part p 10", "part p 0"])), (4, 2));
+}
+
+#[test]
+fn r5_a_part_has_a_task() {
+    assert_eq!(planned(&after_p_and_t(&["part q 10", "lock a 1"])), (4, 4));
+    assert_eq!(planned(&after_p_and_t(&["part q 10", "end"])), (4, 4));
+    assert_eq!(planned(&after_p_and_t(&["part q 10"])), (4, 4));
+}
+
+#[test]
+fn r6_a_task_belongs_to_the_nearest_part() {
+    let file = after_p_and_t(&["part q 10", "task u 20 1 20", "end"]);
+    let parts = file::read(&file).expect("a readable file");
+    let names: Vec<&[u8]> = parts
+        .iter()
+        .flat_map(|part| &part.tasks)
+        .map(|t| t.name.bytes)
+        .collect();
+    assert_eq!((parts.len(), names), (2, vec![&b"t"[..], b"u"]));
+}
+
+#[test]
+fn r7_new_names() {
+    let lines = [
+        "part a 10",
+        "task a 40 1 40",
+        "lock a 1",
+        "task b 40 1 40",
+        "lock a 1",
+        "end",
+    ];
+    assert_eq!(planned(&w(&lines)), (0, 0));
+    let lines = ["part a 10", "task a 40 1 40", "lock a 1", "lock a 1", "end"];
+    assert_eq!(planned(&w(&lines)), (6, 4));
+}
+
+#[test]
+fn r8_the_limit_of_lock_names() {
+    let with_locks = |count: usize, more: &[&str]| {
+        let mut lines = vec!["part p 10".to_string(), "task t 40 2 40".into()];
+        lines.extend((0..count).map(|k| format!("lock l{k} 1")));
+        lines.extend(more.iter().map(|line| line.to_string()));
+        w(&lines)
+    };
+    assert_eq!(planned(&with_locks(8, &["lock l8 3", "end"])), (8, 11));
+    assert_eq!(planned(&with_locks(8, &["lock l8 0", "end"])), (7, 11));
+    assert_eq!(planned(&with_locks(9, &["end"])), (9, 11));
+    assert_eq!(
+        planned(&with_locks(8, &["task u 40 2 40", "lock l0 1", "end"])),
+        (0, 0)
+    );
+}
+
+#[test]
+fn r9_the_limit_of_parts() {
+    let with_part = |line: &str| {
+        let mut lines = Vec::new();
+        for k in 0..16 {
+            lines.push(format!("part p{k} 50"));
+            lines.push("task t 900 1 900".into());
+        }
+        lines.push(line.into());
+        w(&lines)
+    };
+    assert_eq!(planned(&with_part("part p0 0")), (6, 33));
+    assert_eq!(planned(&with_part("part q 0")), (7, 33));
+    assert_eq!(planned(&with_part("part q 9")), (9, 33));
+}
+
+#[test]
+fn r10_well_formed_numbers() {
+    assert_eq!(planned(&w(&["part p 18446744073709551626"])), (7, 1));
+    assert_eq!(planned(b"part\tp\t\n"), (7, 1));
+    for number in [
+        "4294967297",
+        "18446744073709551617",
+        "+5",
+        "-1",
+        "65536",
+        "0",
+        "05",
+        "5x",
+    ] {
+        assert_eq!(
+            planned(&w(&[format!("part p {number}")])),
+            (7, 1),
+            "{number}"
+        );
+    }
+    assert_eq!(
+        planned(&w(&[format!("part p {}", "9".repeat(30_000))])),
+        (7, 1)
+    );
+}
+
+#[test]
+fn r11_all_numbers_before_question_8() {
+    assert_eq!(planned(&w(&["part p 10", "task t 5 9 0"])), (7, 2));
+    assert_eq!(planned(&w(&["part p 10", "task t 5 9 5"])), (8, 2));
+}
+
+#[test]
+fn r12_a_trailing_tab() {
+    assert_eq!(planned(b"part\tp\t10\t\n"), (3, 1));
+    assert_eq!(
+        planned(&[w(&P_AND_T), b"end\t\n".to_vec()].concat()),
+        (3, 3)
+    );
+}
+
+#[test]
+fn r13_question_1_before_everything() {
+    assert_eq!(planned(&[0; 32_769]), (1, 0));
+    assert_eq!(planned(&[0; 32_768]), (2, 1));
+}
+
+#[test]
+fn r14_bytes_that_no_line_may_have() {
+    assert_eq!(planned(b"part\tp q\t10\n"), (2, 1));
+    assert_eq!(planned(b"part\tp_q\t10\n"), (5, 1));
+    for byte in 0..=255 {
+        let file = [b"part\tp", &[byte][..], b"\t10\n"].concat();
+        let expected = match byte {
+            b'\t' | b'\n' => (3, 1),
+            b'a'..=b'z' | b'0'..=b'9' => (4, 2),
+            33..=126 => (5, 1),
+            _ => (2, 1),
+        };
+        assert_eq!(planned(&file), expected, "byte {byte}");
+    }
+}
+
+#[test]
+fn r15_all_questions_of_a_line_before_the_next() {
+    assert_eq!(
+        planned(&[w(&["part p 0"]), b"\x00\n".to_vec()].concat()),
+        (7, 1)
+    );
+}
+
+// ---- readings of the numbers ----
+
+#[test]
+fn n1_two_settings_with_the_same_pair() {
+    let lines = [
+        "part p 10",
+        "task a 60 2 60",
+        "lock l 2",
+        "lock m 1",
+        "task b 60 1 60",
+        "end",
+    ];
+    assert_eq!(kept(&w(&lines), 1), [(1, 2)]);
+}
+
+#[test]
+fn n3_blocking_takes_the_lower_tasks_own_time() {
+    let file = w(&[
+        "part p 10",
+        "task a 90 1 90",
+        "lock l 1",
+        "task b 90 1 90",
+        "task c 90 5 90",
+        "lock l 5",
+        "end",
+    ]);
+    let parts = file::read(&file).expect("a readable file");
+    assert_eq!(local::blockings(&parts[0], &[3])[..3], [0, 1, 1]);
+}
+
+#[test]
+fn n4_the_smallest_time_of_the_least_ratio() {
+    assert_eq!(weighed(&[(96, 2, 2), (20, 2, 1)]).0[0], (19, 96));
+    assert_eq!(weighed(&[(8, 1, 0), (4, 1, 0)]).0[0], (3, 8));
+    assert_eq!(weighed(&[(4, 1, 0), (2, 1, 0)]).0[0], (3, 4));
+}
+
+#[test]
+fn n5_the_first_row_that_reaches_the_load() {
+    let first = weighed(&[(20, 8, 2), (20, 5, 0)]);
+    assert_eq!(first, (vec![(15, 20), (7, 20)], 1, (15, 20)));
+    let first = weighed(&[(20, 5, 1), (10, 2, 0)]);
+    assert_eq!(first, (vec![(10, 20), (3, 10)], 1, (10, 20)));
+    let first = weighed(&[(40, 6, 2), (10, 2, 1)]);
+    assert_eq!(first, (vec![(20, 40), (5, 10)], 1, (20, 40)));
+}
+
+#[test]
+fn n6_ceilings_in_order_of_first_mention_in_the_part() {
+    let file = w(&[
+        "part p 50",
+        "task t 900 1 900",
+        "lock b 1",
+        "lock a 1",
+        "part q 50",
+        "task t 900 1 900",
+        "lock a 1",
+        "lock b 1",
+        "end",
+    ]);
+    let listing = lossy(&printed(&file));
+    let lines: Vec<&str> = listing.split('\n').skip(2).collect();
+    let expected = [
+        "ceiling\tb\t1",
+        "ceiling\ta\t1",
+        "share\tq\t50\t1\t1\t3\t50",
+        "ceiling\ta\t1",
+        "ceiling\tb\t1",
+        "",
+    ];
+    assert_eq!(lines, expected);
+}
+
+#[test]
+fn n2_n7_n8_permission_and_least_budgets_do_not_show() {
+    let mut random = Random::new(7);
+    for _ in 0..200 {
+        let file = random::valid(&mut random, &Sizes::one_part());
+        let part = literal::read(&file).expect("a readable file").remove(0);
+        // N8: a setting with a passing budget is permitted.
+        for setting in part.settings() {
+            if part.holding_time(&setting).is_none() {
+                assert!(!part.passes(&setting, part.period), "{}", lossy(&file));
+            }
+        }
+        // N7: the ceilings shown for a kept pair have its X and its Q as least budget.
+        for (q, x) in part.kept() {
+            let shown = part.ceilings_shown(x);
+            assert_eq!(part.holding_time(&shown), Some(x), "{}", lossy(&file));
+            assert!(
+                part.passes(&shown, q) && !part.passes(&shown, q - 1),
+                "{}",
+                lossy(&file)
+            );
+        }
+    }
+}
+
+#[test]
+fn n10_weighing_in_its_order_of_questions() {
+    assert_eq!(unweighed(&[(10, 1, 65_535)]), (13, 1));
+    assert_eq!(unweighed(&[(10, 10, 10), (10, 0, 0)]), (12, 2));
+    assert_eq!(unweighed(&[(0, 0, 0); 17]), (12, 0));
+    assert_eq!(unweighed(&[]), (12, 0));
+    assert_eq!(unweighed(&[(10, 0, 0)]), (12, 1));
+    assert_eq!(unweighed(&[(65_535, 1, 0), (65_536, 1, 0)]), (12, 2));
+    assert_eq!(unweighed(&[(u64::MAX, u64::MAX, u64::MAX)]), (12, 1));
+}
+
+#[test]
+fn n11_supply_at_0() {
+    assert_eq!(supply_answer(10, 3, 0), Ok(0));
+    assert_eq!(supply_answer(10, 10, 0), Ok(0));
+    assert_eq!(supply_answer(65_535, 65_535, 65_535), Ok(65_535));
+    for (period, budget, time) in [
+        (10, 0, 0),
+        (10, 11, 0),
+        (65_536, 1, 0),
+        (9, 9, 65_536),
+        (0, 0, 0),
+    ] {
+        assert_eq!(
+            number_and_place(supply_answer(period, budget, time)),
+            (12, 0)
+        );
+    }
+}
+
+#[test]
+fn n12_part_numbers() {
+    let file = w(&[
+        "part p 10",
+        "task t 10 6 10",
+        "task u 10 6 10",
+        "part q 10",
+        "task t 40 1 40",
+        "end",
+    ]);
+    let number = |part| number_and_place(candidates(&file, part));
+    assert_eq!(
+        [0, 1, 2, 3].map(number),
+        [(12, 0), (10, 1), (0, 0), (12, 0)]
+    );
+    assert_eq!(planned(&file), (10, 1));
+    assert_eq!(name(&file, 1), Ok(5..6));
+    assert_eq!(name(&file, 2).map(|stretch| &file[stretch]), Ok(&b"q"[..]));
+    assert_eq!(number_and_place(name(&file, 3)), (12, 0));
+    assert_eq!(number_and_place(name(&file, usize::MAX)), (12, 0));
+}
+
+#[test]
+fn n13_room_for_the_listing() {
+    let none = w(&["part p 10", "task t 10 6 10", "task u 10 6 10", "end"]);
+    assert_eq!(number_and_place(plan(&none, 0)), (10, 1));
+    let file = w(&["part p 10", "task t 10 10 10", "end"]);
+    let listing = b"load\tp\t10\t10\nshare\tp\t10\t10\t0\t10\t10\n";
+    assert_eq!(plan(&file, 35), Ok(listing.to_vec()));
+    assert_eq!(
+        plan(&file, 34),
+        Err(Refusal {
+            number: 14,
+            place: 0
+        })
+    );
+}
