@@ -2,3 +2,4 @@ pub mod Settings
 pub mod Falling
 pub mod Keeping
 pub mod Candidates
+pub mod Shown
