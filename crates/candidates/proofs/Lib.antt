@@ -3,3 +3,4 @@ pub mod Falling
 pub mod Keeping
 pub mod Candidates
 pub mod Shown
+pub mod Walk

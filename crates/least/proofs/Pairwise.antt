@@ -21,6 +21,12 @@ module _ {A : Type 0} {R : A → A → Type 0} where
       go q true t = rw (those-pass test x xs t) (more (λ y m. h y (those-member test xs m .0)) q)
       go q false t = rw (those-fail test x xs t) q
 
+  -- another relation that holds between members wherever the first does
+  pub pairwise-map : {S : A → A → Type 0} {xs : List A} → ((x y : A) → List·Memᴰ x xs → List·Memᴰ y xs → R x y → S x y) → Pairwise R xs → Pairwise S xs
+  pairwise-map f none = none
+  pairwise-map f (more {x} {xs} h p) =
+      more (λ y m. f x y (List·Memᴰ·head refl) (List·Memᴰ·tail m) (h y m)) (pairwise-map (λ y z m k. f y z (List·Memᴰ·tail m) (List·Memᴰ·tail k)) p)
+
   -- one more element at the end
   pub pairwise-snoc : {y : A} {xs : List A} → Pairwise R xs → ((x : A) → List·Memᴰ x xs → R x y) → Pairwise R (xs ++ (y ∷ []))
   pairwise-snoc none l = more (λ z m. absurd (List·Memᴰ·not-nil m)) none
