@@ -4,3 +4,4 @@ pub mod Keeping
 pub mod Candidates
 pub mod Shown
 pub mod Walk
+pub mod Count

@@ -46,7 +46,11 @@ falling-behind Falling.one d m = absurd (List·Memᴰ·not-nil m)
 falling-behind (Falling.more h f) d (List·Memᴰ·head e) = omega (arith, ap (λ p. p .holding) e)
 falling-behind (Falling.more h f) d (List·Memᴰ·tail m) = omega (arith, falling-behind f d m)
 
-pub falling-pairwise : {cs : List Pair} → Falling cs → Pairwise (λ c d. d .holding < c .holding) cs
+-- the same as `Falling`, of each pair and each behind it
+abbrev pub Above : Pair → Pair → Type 0
+Above c d = d .holding < c .holding
+
+pub falling-pairwise : {cs : List Pair} → Falling cs → Pairwise Above cs
 falling-pairwise Falling.none = Pairwise.none
 falling-pairwise Falling.one = Pairwise.more (λ d m. absurd (List·Memᴰ·not-nil m)) Pairwise.none
 falling-pairwise (Falling.more {c = c} h f) = Pairwise.more (falling-behind (Falling.more {c = c} h f)) (falling-pairwise f)
