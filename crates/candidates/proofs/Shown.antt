@@ -8,15 +8,17 @@ use native.Mathlib.Omega.{arith}
 use mathlib.Core.Path.{_≡_, refl, sym, ap, _∙_}
 use mathlib.Core.Bool.{true, false≢true}
 use mathlib.Core.Logic.{⊎-elim, _↔_}
-use mathlib.Core.List.{List}
+use mathlib.Core.List.{List, [], _∷_, map, List·Memᴰ, List·Memᴰ·head}
 use lib.ListN.{length}
 use borrow.Author.Tests.{leb-true, le-leb}
 use Rattle.least.specs.declared.Least.{Least}
 use Rattle.least.specs.declared.Least.the-variants.{At, Nothing}
 use Rattle.least.specs.Search.{leastFrom, numberOr0}
+use Rattle.least.specs.Lists.{smallest, those}
 use Rattle.least.proofs.Search.{least-found, least-upto, least-unique}
+use Rattle.least.proofs.Lists.{those-member, smallest-le}
 use Rattle.task_set.specs.declared.Task.{Task}
-use Rattle.task_set.specs.Tasks.{lowestCeiling}
+use Rattle.task_set.specs.Tasks.{uses, lowestCeiling, smallestDeadline}
 use Rattle.task_set.specs.Blocking.{Setting}
 use Rattle.holding.specs.Holding.{held, HoldingTime, holdingOf, holdingTimeOf}
 use Rattle.holding.proofs.Holding.{inRange-paper, holding-paper, permitted-paper, holdingTime-paper}
@@ -41,9 +43,6 @@ AllWithin ts m x σ = (l : ℕ) → 1 ≤ l → l ≤ m → Within ts x l (σ l)
 within-iff : (x : ℕ) (a : Least) → (within x a ≡ true) ↔ ((w : ℕ) × (a ≡ At w) × (w ≤ x))
 within-iff x (At w) = ((λ t. (w, refl, leb-true w x t)), λ h. let e : w ≡ h .0 = cc (h .1) in le-leb w x (omega (arith, h .2)))
 within-iff x Nothing = ((λ t. absurd (false≢true t)), λ h. let z : _≡_ {A = ℕ} 0 1 = cc (h .1) in absurd (omega arith))
-
-pub within-more : (ts : List Task) (x y l r : ℕ) → x ≤ y → Within ts x l r → Within ts y l r
-within-more ts x y l r h k = record { low = k .low; high = k .high; time = k .time; is = k .is; most = le-trans (k .most) h }
 
 -- the settings with X ≤ x, lock by lock
 module _ (ts : List Task) (m x : ℕ) (σ : Setting) where
@@ -71,6 +70,22 @@ module _ (ts : List Task) (m x : ℕ) (σ : Setting) where
     where
       reached : (l : ℕ) → HoldingTime ts l (σ l) (holdingTimeOf ts m σ) → Within ts x l (σ l) → holdingTimeOf ts m σ ≤ x
       reached l h t = omega (arith, least-unique (held ts l (σ l)) (holdingTimeOf ts m σ) (t .time) h (holding-paper ts l (σ l) (t .time) .0 (t .is) .0))
+
+-- a deadline that no task exceeds is at least every X
+smallest-most : (x : ℕ) (ks : List Task) → ((k : Task) → List·Memᴰ k ks → k .deadline ≤ x) → smallest (map (λ k. k .deadline) ks) ≤ x
+unfolding smallest
+smallest-most x [] h = omega arith
+smallest-most x (k ∷ ks) h = le-trans (smallest-le (k .deadline ∷ map (λ k. k .deadline) ks) (List·Memᴰ·head refl)) (h k (List·Memᴰ·head refl))
+
+pub deadlines-holding : (ts : List Task) (m x : ℕ) → ((k : Task) → List·Memᴰ k ts → k .deadline ≤ x) → (σ : Setting) → Permitted ts m σ → holdingTimeOf ts m σ ≤ x
+unfolding smallestDeadline
+deadlines-holding ts m x most σ ok = within-holding ts m x σ all
+  where
+    all : AllWithin ts m x σ
+    all l a b =
+        let k = permitted-within ts m (holdingTimeOf ts m σ) σ ok (le-refl _) l a b in
+        let d = smallest-most x (those (uses l) ts) (λ t j. most t (those-member (uses l) ts j .0)) in
+        record { low = k .low; high = k .high; time = k .time; is = k .is; most = le-trans (holding-paper ts l (σ l) (k .time) .0 (k .is) .1) d }
 
 -- the search for the ceiling of one lock
 module _ (ts : List Task) (x l : ℕ) where
