@@ -40,7 +40,7 @@ pub record Within (ts : List Task) (x l r : ℕ) : Type 0 where
 abbrev pub AllWithin : List Task → ℕ → ℕ → Setting → Type 0
 AllWithin ts m x σ = (l : ℕ) → 1 ≤ l → l ≤ m → Within ts x l (σ l)
 
-within-iff : (x : ℕ) (a : Least) → (within x a ≡ true) ↔ ((w : ℕ) × (a ≡ At w) × (w ≤ x))
+pub within-iff : (x : ℕ) (a : Least) → (within x a ≡ true) ↔ ((w : ℕ) × (a ≡ At w) × (w ≤ x))
 within-iff x (At w) = ((λ t. (w, refl, leb-true w x t)), λ h. let e : w ≡ h .0 = cc (h .1) in le-leb w x (omega (arith, h .2)))
 within-iff x Nothing = ((λ t. absurd (false≢true t)), λ h. let z : _≡_ {A = ℕ} 0 1 = cc (h .1) in absurd (omega arith))
 
@@ -114,7 +114,7 @@ module _ (ts : List Task) (x l : ℕ) where
   pub missed-none : lowestWithin ≡ Nothing → (r : ℕ) → Within ts x l r → ⊥
   missed-none e r k = let f = found-first r k in let z : _≡_ {A = ℕ} 0 1 = cc (f .1) in omega arith
 
-  missed-shown : lowestWithin ≡ Nothing → shownCeiling ts x l ≡ 0
+  pub missed-shown : lowestWithin ≡ Nothing → shownCeiling ts x l ≡ 0
   unfolding shownCeiling numberOr0
   missed-shown e = ap numberOr0 e
 
