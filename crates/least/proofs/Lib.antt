@@ -6,3 +6,4 @@ pub mod Greatest
 pub mod Along
 pub mod Each
 pub mod Fraction
+pub mod Iterate

@@ -16,6 +16,8 @@ use Rattle.task_set.specs.declared.Task.{Task}
 use Rattle.task_set.specs.declared.Part.{Part}
 use Rattle.task_set.specs.Tasks.{higher, demandIn, withLocks, tasksOf}
 use Rattle.task_set.specs.Fine.{blankTask, FineTask, FinePart}
+use Rattle.task_set.proofs.Demand.{Separated}
+use Rattle.task_set.proofs.Demand.Separated.{none, more}
 
 drop-map : {A B : Type 0} (f : A → B) (k : ℕ) (l : List A) → drop k (map f l) ≡ map f (drop k l)
 drop-map f zero l = refl
@@ -59,3 +61,17 @@ module _ (p : Part) (fine : FinePart p) where
 
   pub demand-small : (k w : ℕ) → w ≤ 2 ^ 20 → demandIn (drop k (tasksOf p)) w ≤ 2 ^ 44
   demand-small k w l = omega (arith, demand-few 16 k w (omega (arith, fine .few)) l)
+
+  separated-from : (d k : ℕ) → p .count ≤ k + d → Separated (drop k (tasksOf p))
+  separated-from zero k h = rw (tasks-end k (omega arith)) none
+  separated-from (suc d) k h = go (decLt k (p .count)) (separated-from d (suc k) (omega arith))
+    where
+      go : Dec (k < p .count) → Separated (drop (suc k) (tasksOf p)) → Separated (drop k (tasksOf p))
+      go (yes q) ih =
+          let t = fine .each k q in
+          let some : 1 ≤ getD (p .tasks) k blankTask .separation = omega arith in
+          rw (tasks-at k q) (more some ih)
+      go (no q) ih = rw (tasks-end k (omega arith)) none
+
+  pub fine-separated : Separated (tasksOf p)
+  fine-separated = separated-from (p .count) 0 (omega arith)
