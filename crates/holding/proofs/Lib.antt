@@ -1,3 +1,4 @@
 pub mod Holding
 pub mod SettingsAgree
 pub mod Falling
+pub mod Iteration

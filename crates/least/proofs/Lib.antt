@@ -10,3 +10,4 @@ pub mod Pairwise
 pub mod Sums
 pub mod Fraction
 pub mod Pad
+pub mod Iterate
