@@ -15,7 +15,7 @@ use Rattle.least.proofs.Search.{least-iff, any-iff}
 use Rattle.least.proofs.Bisect.{least-after, none-rising}
 use Rattle.least.proofs.Along.{along-iff}
 use Rattle.supply.specs.Supply.{supplyOf}
-use Rattle.supply.proofs.Supply.{supply-mono-Q}
+use Rattle.supply.proofs.SupplyLaws.{supply-mono-Q}
 use Rattle.task_set.specs.declared.Task.{Task}
 use Rattle.task_set.specs.Blocking.{Setting, blockingOf, needOf}
 use Rattle.task_set.proofs.Blocking.{blocking-mono}

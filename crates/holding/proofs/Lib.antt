@@ -1,2 +1,4 @@
 pub mod Holding
 pub mod SettingsAgree
+pub mod Falling
+pub mod Iteration

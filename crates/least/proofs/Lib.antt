@@ -5,5 +5,9 @@ pub mod Lists
 pub mod Greatest
 pub mod Along
 pub mod Each
+pub mod Those
+pub mod Pairwise
+pub mod Sums
 pub mod Fraction
 pub mod Pad
+pub mod Iterate

@@ -1,4 +1,7 @@
-// Numbers: the answer of a bounded search, and fractions.
+// Numbers: division rounded up, the answer of a bounded search, and fractions.
+ghost use mathlib.Core.Path.{_≡_};
+ghost use Prim.Native.Nat.{_+_, _^_, min, max, _≤_, _<_};
+ghost use Rattle.least.specs.Round.{ceilDiv};
 
 // The answer of a bounded search for the least number that passes a test.
 pub enum Least {
@@ -10,4 +13,26 @@ pub enum Least {
 pub struct Frac {
     pub num: u64,
     pub den: u64,
+}
+
+// a / b, rounded up.
+pub fn ceil_div(a: u64, b: u64) -> u64
+    requires { ⌜ (1 ≤ b) × (a + b < 2 ^ 64) ⌝ }
+    ensures { λ r. ⌜ r ≡ ceilDiv a b ⌝ }
+{
+    (a + (b - 1)) / b
+}
+
+// The greater of two numbers.
+pub fn larger(a: u64, b: u64) -> u64
+    ensures { λ r. ⌜ r ≡ max a b ⌝ }
+{
+    if a < b { b } else { a }
+}
+
+// The smaller of two numbers.
+pub fn smaller(a: u64, b: u64) -> u64
+    ensures { λ r. ⌜ r ≡ min a b ⌝ }
+{
+    if a < b { a } else { b }
 }

@@ -2,9 +2,11 @@
 -- Document 001, section 3.1, as paper 01 writes it in whole ticks. 1 ≤ Q ≤ P is understood.
 --   roundOf P Q t  == k: the larger of ⌈(t − (P−Q))/P⌉ and 1
 --   supplyOf P Q t == the supply of (P,Q) in t ticks
+--   ReachIs P Q x r == r is the least t in which (P,Q) supplies x ticks
 -- A difference is cut off at 0. That tells only in t − (P−Q), where k is 1 then, as it is with the signed difference.
 -- Assumes nothing.
-use Prim.Native.Nat.{ℕ, _+_, _-_, _*_, max}
+use Prim.Native.Nat.{ℕ, _+_, _-_, _*_, max, _≤_}
+use mathlib.Core.Logic.{_↔_}
 use mathlib.Core.Bool.{cond, _&&_}
 use lib.Dec.{leb}
 use Rattle.least.specs.Round.{ceilDiv}
@@ -21,3 +23,6 @@ supplyAt P Q t k =
 
 unfoldable pub supplyOf : ℕ → ℕ → ℕ → ℕ
 supplyOf P Q t = supplyAt P Q t (roundOf P Q t)
+
+pub record ReachIs (P Q x r : ℕ) : Type 0 where
+  pub least : (t : ℕ) → (x ≤ supplyOf P Q t) ↔ (r ≤ t)

@@ -1,3 +1,4 @@
 pub mod Demand
 pub mod Blocking
 pub mod SettingsAgree
+pub mod Places

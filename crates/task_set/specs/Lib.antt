@@ -1,2 +1,3 @@
 pub mod Tasks
 pub mod Blocking
+pub mod Fine

@@ -18,7 +18,7 @@ use Rattle.supply.specs.Supply.{roundOf, supplyAt, supplyOf}
 unfoldable pub reach : ℕ → ℕ → ℕ → ℕ
 reach P Q x = x + (ceilDiv x Q + 1) * (P - Q)
 
-twice-more : (j x : ℕ) → (suc j + 1) * x ≡ j * x + x + x
+pub twice-more : (j x : ℕ) → (suc j + 1) * x ≡ j * x + x + x
 twice-more j x = simp (add-one, suc-mul)
 
 -- where the branch of the round k = j + 1 begins and ends, with g = P − Q and q = Q
@@ -44,10 +44,10 @@ unfolding roundOf
 round-is g q t = ap (λ (x : ℕ). max (ceilDiv (t - x) (g + q)) 1) (add-sub-cancel g q)
 
 -- what is known of t at the round k = j + 1 that the definition picks
-record Round (g q t j : ℕ) : Type 0 where
-  upper : t ≤ j * q + j * g + q + g + g
-  lower : (j ≡ 0) ⊎ (j * q + j * g + g < t)
-  value : supplyOf (g + q) q t ≡ j * q + (t - (j * q + j * g + g + g))
+pub record Round (g q t j : ℕ) : Type 0 where
+  pub upper : t ≤ j * q + j * g + q + g + g
+  pub lower : (j ≡ 0) ⊎ (j * q + j * g + g < t)
+  pub value : supplyOf (g + q) q t ≡ j * q + (t - (j * q + j * g + g + g))
 
 module _ (g q t : ℕ) (h : 1 ≤ q) where
   value-at : (j : ℕ) → max (ceilDiv (t - g) (g + q)) 1 ≡ suc j → t ≤ j * q + j * g + q + g + g → supplyOf (g + q) q t ≡ j * q + (t - (j * q + j * g + g + g))
@@ -59,7 +59,7 @@ module _ (g q t : ℕ) (h : 1 ≤ q) where
       let u : t ≤ 0 * q + 0 * g + q + g + g = omega (arith, rw e at (ceil-covers (t - g) (g + q) (omega arith)), zero-mul (g + q)) in
       record { upper = u; lower = inl refl; value = value-at 0 (rw e refl) u }
 
-  round-suc : (j : ℕ) → ceilDiv (t - g) (g + q) ≡ suc j → Round g q t j
+  pub round-suc : (j : ℕ) → ceilDiv (t - g) (g + q) ≡ suc j → Round g q t j
   round-suc j e =
       let u : t ≤ j * q + j * g + q + g + g = omega (arith, rw e at (ceil-covers (t - g) (g + q) (omega arith)), suc-mul j (g + q), mul-add j g q) in
       record { upper = u; lower = inr (low (decLt _ _)); value = value-at j (omega arith) u }

@@ -1,0 +1,220 @@
+-- The kept list by a walk through falling X: from x on take the pair (Q,X) of the ceilings shown for x, drop from the list the pairs whose sum Q+X is
+-- no smaller, put (Q,X) behind it, and go on from X − 1.
+--   Behind c d        == d has a smaller X and a greater Q+X than c
+--   lighter s cs      == the pairs with Q+X < s
+--   WalkedFrom P ts m e cs == cs is what the walk keeps of the candidates with X ≥ e
+--   Walked P ts m x cs == of those with X > x
+-- Assumes nothing.
+use Prim.Native.Nat.{ℕ, suc, _+_, _-_, _≤_, _<_}
+use native.Mathlib.Nat.{le-refl}
+use native.Mathlib.Omega.{arith}
+use native.Mathlib.Decide.{decLe, decLt}
+use mathlib.Core.Path.{_≡_, refl, sym, ap, _∙_, subst}
+use mathlib.Core.Logic.{_⊎_, inl, inr, ⊎-elim}
+use mathlib.Core.List.{List, [], _∷_, _++_, List·Memᴰ, List·Memᴰ·head, List·Memᴰ·tail, List·Memᴰ·not-nil, List·Memᴰ·append-cases, List·Memᴰ·eq-of-singleton, Memᴰ·cast, Memᴰ·append-left, Memᴰ·append-right}
+use lib.Dec.{ltb}
+use borrow.Author.Tests.{ltb-true, lt-ltb, le-ltb}
+use Rattle.least.specs.declared.Least.the-variants.{At, Nothing}
+use Rattle.least.specs.Lists.{those}
+use Rattle.least.proofs.Lists.{those-member, those-passing}
+use Rattle.least.proofs.Those.{those-all, those-dropped}
+use Rattle.least.proofs.Pairwise.{Pairwise, pairwise-those, pairwise-map, pairwise-snoc, pairwise-front, pairwise-across, pairwise-members, pairwise-unique}
+use Rattle.task_set.specs.declared.Task.{Task}
+use Rattle.task_set.specs.Blocking.{Setting}
+use Rattle.holding.specs.Holding.{holdingTimeOf}
+use Rattle.budget.specs.Budget.{leastBudget}
+use Rattle.candidates.specs.declared.Pair.{Pair}
+use Rattle.candidates.specs.Candidates.{pair, keptList, shownCeiling}
+use Rattle.candidates.specs.Statement.{Permitted, Candidate, IsKept}
+use Rattle.candidates.proofs.Falling.{Falling}
+use Rattle.candidates.proofs.Keeping.{pair-same, NoWorse, Covered}
+use Rattle.candidates.proofs.Candidates.{kept-iff, kept-falls}
+use Rattle.candidates.proofs.Shown.{lowestWithin, found-none, candidate-shown, no-budget-below}
+
+abbrev pub sumOf : Pair → ℕ
+sumOf c = c .budget + c .holding
+
+pub record Behind (c d : Pair) : Type 0 where
+  pub holding : d .holding < c .holding
+  pub sum : sumOf c < sumOf d
+
+behind-once : (c d : Pair) → Behind c d → Behind d c → ⊥
+behind-once c d h k = omega arith
+
+falling-behind : {c : Pair} {cs : List Pair} → Falling (c ∷ cs) → (d : Pair) → List·Memᴰ d cs → d .holding < c .holding
+falling-behind Falling.one d m = absurd (List·Memᴰ·not-nil m)
+falling-behind (Falling.more h f) d (List·Memᴰ·head e) = omega (arith, ap (λ p. p .holding) e)
+falling-behind (Falling.more h f) d (List·Memᴰ·tail m) = omega (arith, falling-behind f d m)
+
+-- the same as `Falling`, of each pair and each behind it
+abbrev pub Above : Pair → Pair → Type 0
+Above c d = d .holding < c .holding
+
+pub falling-pairwise : {cs : List Pair} → Falling cs → Pairwise Above cs
+falling-pairwise Falling.none = Pairwise.none
+falling-pairwise Falling.one = Pairwise.more (λ d m. absurd (List·Memᴰ·not-nil m)) Pairwise.none
+falling-pairwise (Falling.more {c = c} h f) = Pairwise.more (falling-behind (Falling.more {c = c} h f)) (falling-pairwise f)
+
+-- e is no worse than d, and d no worse than c: d is c, if e is c or one of them stands behind the other
+no-worse-same : (c d e : Pair) → NoWorse d c → NoWorse e d → (e ≡ c) ⊎ (Behind e c ⊎ Behind c e) → d ≡ c
+no-worse-same c d e h k (inl q) =
+    let x = ap (λ p. p .holding) q in
+    let b = ap (λ p. p .budget) q in
+    pair-same d c (omega arith) (omega arith)
+no-worse-same c d e h k (inr (inl b)) = absurd (omega arith)
+no-worse-same c d e h k (inr (inr b)) = absurd (omega arith)
+
+module _ (P : ℕ) (ts : List Task) (m : ℕ) where
+  behind-kept : (c d : Pair) → IsKept P ts m c → IsKept P ts m d → d .holding < c .holding → Behind c d
+  behind-kept c d k j l = go (decLt (sumOf c) (sumOf d))
+    where
+      go : Dec (sumOf c < sumOf d) → Behind c d
+      go (yes h) = record { holding = l; sum = h }
+      go (no h) = absurd (omega (arith, ap (λ p. p .holding) (k .alone d (j .candidate) (omega arith) (omega arith))))
+
+  -- along the kept list X falls and Q+X rises
+  pub kept-ordered : Pairwise Behind (keptList P ts m)
+  kept-ordered =
+      pairwise-map (λ c d k j l. behind-kept c d (kept-iff P ts m c .0 k) (kept-iff P ts m d .0 j) l) (falling-pairwise (kept-falls P ts m))
+
+  -- A list of candidates that has one beside each candidate that is no worse, with X falling and Q+X rising along it, is the kept list.
+  module _ (cs : List Pair) (candidates : (c : Pair) → List·Memᴰ c cs → Candidate P ts m c) (ordered : Pairwise Behind cs) (covers : (d : Pair) → Candidate P ts m d → Covered cs d) where
+    into-kept : (c : Pair) → List·Memᴰ c cs → List·Memᴰ c (keptList P ts m)
+    into-kept c k = kept-iff P ts m c .1 (record { candidate = candidates c k; alone = alone })
+      where
+        alone : (d : Pair) → Candidate P ts m d → d .holding ≤ c .holding → sumOf d ≤ sumOf c → d ≡ c
+        alone d q x s =
+            let e = covers d q in
+            no-worse-same c d (e .0) (record { holding = x; sum = s }) (e .2) (pairwise-members ordered (e .1) k)
+
+    from-kept : (c : Pair) → List·Memᴰ c (keptList P ts m) → List·Memᴰ c cs
+    from-kept c k =
+        let i = kept-iff P ts m c .0 k in
+        let e = covers c (i .candidate) in
+        Memᴰ·cast (sym (i .alone (e .0) (candidates (e .0) (e .1)) (e .2 .holding) (e .2 .sum))) (e .1)
+
+    pub kept-criterion : cs ≡ keptList P ts m
+    kept-criterion = pairwise-unique Behind behind-once cs (keptList P ts m) ordered kept-ordered into-kept from-kept
+
+-- the pairs with a sum below s
+abbrev pub lighter : ℕ → List Pair → List Pair
+lighter s cs = those (λ c. ltb (sumOf c) s) cs
+
+-- Found from the end: a last pair that is not lighter goes; where the last is lighter, all are.
+pub lighter-none : (s : ℕ) → lighter s [] ≡ []
+unfolding those
+lighter-none s = refl
+
+pub lighter-drop : (s : ℕ) (cs : List Pair) (c : Pair) → s ≤ sumOf c → lighter s (cs ++ (c ∷ [])) ≡ lighter s cs
+lighter-drop s cs c l = those-dropped _ cs c (le-ltb (sumOf c) s l)
+
+pub lighter-keep : (s : ℕ) (cs : List Pair) (c : Pair) → Pairwise Behind (cs ++ (c ∷ [])) → sumOf c < s → lighter s (cs ++ (c ∷ [])) ≡ cs ++ (c ∷ [])
+lighter-keep s cs c p l = those-all _ (cs ++ (c ∷ [])) (λ d k. lt-ltb (sumOf d) s (⊎-elim (before d) (last d) (List·Memᴰ·append-cases cs k)))
+  where
+    before : (d : Pair) → List·Memᴰ d cs → sumOf d < s
+    before d k = omega (arith, pairwise-across cs p k (List·Memᴰ·head refl) .sum)
+
+    last : (d : Pair) → List·Memᴰ d (c ∷ []) → sumOf d < s
+    last d k = omega (arith, ap sumOf (List·Memᴰ·eq-of-singleton k))
+
+-- `front` is left of cs after some pairs with a sum of at least s were dropped from its end
+pub record Popped (s : ℕ) (cs front : List Pair) : Type 0 where
+  pub same : lighter s front ≡ lighter s cs
+  pub ordered : Pairwise Behind front
+
+module _ (s : ℕ) (cs : List Pair) where
+  pub pop-start : Pairwise Behind cs → Popped s cs cs
+  pop-start p = record { same = refl; ordered = p }
+
+  pub pop-step : (front : List Pair) (c : Pair) → Popped s cs (front ++ (c ∷ [])) → s ≤ sumOf c → Popped s cs front
+  pop-step front c h l = record { same = sym (lighter-drop s front c l) ∙ h .same; ordered = pairwise-front front (c ∷ []) (h .ordered) }
+
+  pub pop-empty : Popped s cs [] → lighter s cs ≡ []
+  pop-empty h = sym (h .same) ∙ lighter-none s
+
+  pub pop-end : (front : List Pair) (c : Pair) → Popped s cs (front ++ (c ∷ [])) → sumOf c < s → lighter s cs ≡ front ++ (c ∷ [])
+  pop-end front c h l = sym (h .same) ∙ lighter-keep s front c (h .ordered) l
+
+-- the lighter pairs, and (Q,X) behind them
+abbrev pub pushed : ℕ → ℕ → List Pair → List Pair
+pushed Q X cs = lighter (Q + X) cs ++ (pair Q X ∷ [])
+
+pub record WalkedFrom (P : ℕ) (ts : List Task) (m e : ℕ) (cs : List Pair) : Type 0 where
+  pub candidates : (c : Pair) → List·Memᴰ c cs → Candidate P ts m c
+  pub above : (c : Pair) → List·Memᴰ c cs → e ≤ c .holding
+  pub ordered : Pairwise Behind cs
+  pub covers : (d : Pair) → Candidate P ts m d → e ≤ d .holding → Covered cs d
+
+abbrev pub Walked : ℕ → List Task → ℕ → ℕ → List Pair → Type 0
+Walked P ts m x cs = WalkedFrom P ts m (suc x) cs
+
+module _ (P : ℕ) (ts : List Task) (m : ℕ) where
+  pub walk-start : (x : ℕ) → ((σ : Setting) → Permitted ts m σ → holdingTimeOf ts m σ ≤ x) → Walked P ts m x []
+  walk-start x most = record {
+    candidates = λ c k. absurd (List·Memᴰ·not-nil k);
+    above = λ c k. absurd (List·Memᴰ·not-nil k);
+    ordered = Pairwise.none;
+    covers = λ d q l. absurd (omega (arith, most (q .setting) (q .allowed), q .holding));
+  }
+
+  module _ (x Q X : ℕ) (cs : List Pair) (w : Walked P ts m x cs) (ok : Permitted ts m (shownCeiling ts x)) (is : holdingTimeOf ts m (shownCeiling ts x) ≡ X) (most : X ≤ x) (least : leastBudget P ts m (shownCeiling ts x) ≡ At Q) where
+    of-lighter : (c : Pair) → List·Memᴰ c (lighter (Q + X) cs) → List·Memᴰ c cs × (sumOf c < Q + X)
+    of-lighter c k = let h = those-member _ cs k in (h .0, ltb-true (sumOf c) (Q + X) (h .1))
+
+    of-pushed : (R : Pair → Type 0) → ((c : Pair) → List·Memᴰ c cs → R c) → R (pair Q X) → (c : Pair) → List·Memᴰ c (pushed Q X cs) → R c
+    of-pushed R old new c k =
+        ⊎-elim (λ (q : List·Memᴰ c (lighter (Q + X) cs)). old c (of-lighter c q .0)) (λ (q : List·Memᴰ c (pair Q X ∷ [])). subst R (sym (List·Memᴰ·eq-of-singleton q)) new) (List·Memᴰ·append-cases (lighter (Q + X) cs) k)
+
+    pushed-covers : (d : Pair) → Candidate P ts m d → X ≤ d .holding → Covered (pushed Q X cs) d
+    pushed-covers d q l = go (decLe (d .holding) x)
+      where
+        new : Q + X ≤ sumOf d → Covered (pushed Q X cs) d
+        new h = (pair Q X, Memᴰ·append-right (lighter (Q + X) cs) (List·Memᴰ·head refl), record { holding = l; sum = h })
+
+        old : Covered cs d → Covered (pushed Q X cs) d
+        old e = keep (decLt (sumOf (e .0)) (Q + X))
+          where
+            keep : Dec (sumOf (e .0) < Q + X) → Covered (pushed Q X cs) d
+            keep (yes h) = (e .0, Memᴰ·append-left _ (those-passing _ cs (e .1) (lt-ltb _ _ h)), e .2)
+            keep (no h) = new (omega (arith, e .2 .sum))
+
+        go : Dec (d .holding ≤ x) → Covered (pushed Q X cs) d
+        go (yes h) =
+            let b = candidate-shown P ts m x d q h in
+            let same : b .0 ≡ Q = cc (b .1) in
+            new (omega (arith, b .2))
+        go (no h) = old (w .covers d q (omega arith))
+
+    pub walk-push : WalkedFrom P ts m X (pushed Q X cs)
+    walk-push = record {
+      candidates = of-pushed (Candidate P ts m) (w .candidates) (record { setting = shownCeiling ts x; allowed = ok; holding = is; budget = least });
+      above = of-pushed (λ c. X ≤ c .holding) (λ c k. omega (arith, w .above c k)) (le-refl X);
+      ordered = pairwise-snoc (pairwise-those _ (w .ordered)) (λ c k. let h = of-lighter c k in record { holding = omega (arith, w .above c (h .0)); sum = h .1 });
+      covers = pushed-covers;
+    }
+
+    -- the same, where x can still fall
+    pub walk-next : 1 ≤ X → Walked P ts m (X - 1) (pushed Q X cs)
+    walk-next h = let e : X ≡ suc (X - 1) = omega arith in subst (λ (k : ℕ). WalkedFrom P ts m k (pushed Q X cs)) e walk-push
+
+  -- all candidates are looked at: none has a smaller X
+  pub walk-all : (e : ℕ) (cs : List Pair) → WalkedFrom P ts m e cs → ((c : Pair) → Candidate P ts m c → e ≤ c .holding) → cs ≡ keptList P ts m
+  walk-all e cs w all = kept-criterion P ts m cs (w .candidates) (w .ordered) (λ d q. w .covers d q (all d q))
+
+  pub walk-end : (x : ℕ) (cs : List Pair) → Walked P ts m x cs → ((c : Pair) → Candidate P ts m c → c .holding ≤ x → ⊥) → cs ≡ keptList P ts m
+  walk-end x cs w no-more = walk-all (suc x) cs w (λ c q. above c q (decLe (c .holding) x))
+    where
+      above : (c : Pair) → Candidate P ts m c → Dec (c .holding ≤ x) → x < c .holding
+      above c q (yes h) = absurd (no-more c q h)
+      above c q (no h) = omega arith
+
+  -- at 0 nothing is left
+  pub walk-zero : (cs : List Pair) → WalkedFrom P ts m 0 cs → cs ≡ keptList P ts m
+  walk-zero cs w = walk-all 0 cs w (λ c q. omega arith)
+
+  -- the walk ends where a lock has no ceiling within x, or no budget passes
+  pub walk-missed : (x l : ℕ) (cs : List Pair) → Walked P ts m x cs → 1 ≤ l → l ≤ m → lowestWithin ts x l ≡ Nothing → cs ≡ keptList P ts m
+  walk-missed x l cs w a b e = walk-end x cs w (λ c q h. found-none ts m x l a b e (q .setting) (q .allowed) (omega (arith, q .holding)))
+
+  pub walk-no-budget : (x : ℕ) (cs : List Pair) → Walked P ts m x cs → leastBudget P ts m (shownCeiling ts x) ≡ Nothing → cs ≡ keptList P ts m
+  walk-no-budget x cs w e = walk-end x cs w (no-budget-below P ts m x e)

@@ -1,0 +1,77 @@
+-- `holding::hold` meets its contract. The invariant: no number below w is a solution. A step keeps it, at rest w is the least, and past the limit there is none.
+-- Assumes nothing.
+use Prim.Native.Nat.{ℕ, _+_, _-_, _≤_}
+use mathlib.Core.Path.{_≡_, sym, ap}
+use native.Mathlib.Omega.{arith}
+use Rattle.least.proofs.Iterate.{Unsolved, start-unsolved, step-unsolved, at-rest, past-limit}
+use Rattle.holding.specs.Code.{holdUpTo}
+use Rattle.holding.proofs.Iteration.{holdNeed, need-mono, need-from}
+use Rattle.holding.proofs.hold.Statement.{statement}
+use Rattle.holding.proofs.hold.Tie as tie
+
+abbrev Inv-loop : tie.InvT-loop
+Inv-loop part g r limit w₀ w = (1 ≤ w) × Unsolved (holdNeed part g r) w
+
+abbrev μ-loop : tie.MeasureT-loop
+μ-loop part g r limit w₀ w = limit + 1 - w
+
+-- the labelled loop makes one turn
+abbrev Inv-search : tie.InvT-search
+Inv-search part g r limit w₀ w = (1 ≤ w) × Unsolved (holdNeed part g r) w
+
+abbrev μ-search : tie.MeasureT-search
+μ-search part g r limit w₀ w = 0
+
+search-holds : tie.Need-search-holds Inv-loop μ-loop Inv-search μ-search
+search-holds c = (omega arith, start-unsolved _ (c .args .g) (need-from (c .args .part) (c .args .g) (c .args .r)))
+
+loop-holds : tie.Need-loop-holds Inv-loop μ-loop Inv-search μ-search
+loop-holds c = c .search .inv
+
+demand-above-requires : tie.Need-demand-above-requires Inv-loop μ-loop Inv-search μ-search
+demand-above-requires c κs = let s = c .before .before .before in (s .pre .0, omega arith)
+
+add-next : tie.Need-add-next Inv-loop μ-loop Inv-search μ-search
+add-next c = omega arith
+
+loop-less : tie.Need-loop-less Inv-loop μ-loop Inv-search μ-search
+loop-less c = omega arith
+
+-- what the code computes is the need at w
+is : (c : tie.After-demand-above Inv-loop μ-loop Inv-search μ-search) →
+    let a = c .before .before .before .before .args in
+    a .g + c .demand-above .result ≡ holdNeed (a .part) (a .g) (a .r) (c .before .before .loop .w)
+is c = ap (λ (x : ℕ). c .before .before .before .before .args .g + x) (c .demand-above .ensures .value)
+
+loop-again : tie.Need-loop-again Inv-loop μ-loop Inv-search μ-search
+loop-again c =
+    let s = c .before .before .before .before .before in
+    let at = c .before .before .before .loop in
+    (omega arith, step-unsolved _ (at .w) _ (need-mono (s .args .part) (s .pre .0) (s .args .g) (s .args .r)) (at .inv .1) (omega (arith, is (c .before))))
+
+returns : tie.Need-returns Inv-loop μ-loop Inv-search μ-search
+unfolding holdUpTo
+returns c = sym (past-limit _ (c .before .loop .w) (c .before .before .before .args .limit) (c .before .loop .inv .1) (c .if1 .taken))
+
+returns-2 : tie.Need-returns-2 Inv-loop μ-loop Inv-search μ-search
+unfolding holdUpTo
+returns-2 c =
+    let at = c .before .before .before .loop in
+    sym (at-rest _ (at .w) (c .before .before .before .before .before .args .limit) (at .inv .1) (at .inv .0) (omega arith) (omega (arith, is (c .before))))
+
+pub hold-spec : {M : Type 1} → statement M
+hold-spec =
+    tie.close
+    (tie.spec
+    Inv-loop
+    μ-loop
+    Inv-search
+    μ-search
+    search-holds
+    loop-holds
+    demand-above-requires
+    add-next
+    loop-less
+    loop-again
+    returns
+    returns-2)

@@ -1,0 +1,56 @@
+-- The least w with f w ≤ w, for a monotone f, by iteration. A value with no solution below it steps to f of it, which again has none below it;
+-- where f w ≤ w it is the least solution.
+-- Assumes nothing.
+use Prim.Native.Nat.{ℕ, suc, _+_, _≤_, _<_}
+use native.Mathlib.Nat.{le-trans, lt-of-lt-of-le}
+use native.Mathlib.Omega.{arith}
+use native.Mathlib.Decide.{decLt}
+use mathlib.Core.Path.{_≡_}
+use mathlib.Core.Bool.{Bool, true, false}
+use borrow.Author.Tests.{le-leb, lt-leb}
+use lib.Dec.{leb}
+use Rattle.least.specs.declared.Least.the-variants.{At, Nothing}
+use Rattle.least.specs.Search.{leastFrom, anyFrom}
+use Rattle.least.proofs.Search.{NoneIn, least-at, least-nothing, any-true, any-false}
+
+abbrev pub Mono : (ℕ → ℕ) → Type 0
+Mono f = (v w : ℕ) → v ≤ w → f v ≤ f w
+
+-- the test f w ≤ w
+abbrev pub settles : (ℕ → ℕ) → ℕ → Bool
+settles f w = leb (f w) w
+
+-- no v with 1 ≤ v < w solves f v ≤ v
+abbrev pub Unsolved : (ℕ → ℕ) → ℕ → Type 0
+Unsolved f w = (v : ℕ) → 1 ≤ v → v < w → v < f v
+
+-- a start: what every value of f reaches
+pub start-unsolved : (f : ℕ → ℕ) (g : ℕ) → ((v : ℕ) → g ≤ f v) → Unsolved f g
+start-unsolved f g low v l h = lt-of-lt-of-le h (low v)
+
+-- a step, to f w or to anything below it
+pub step-unsolved : (f : ℕ → ℕ) (w x : ℕ) → Mono f → Unsolved f w → x ≤ f w → Unsolved f x
+step-unsolved f w x mono uns s v l h = go (decLt v w)
+  where
+    go : Dec (v < w) → v < f v
+    go (yes q) = uns v l q
+    go (no q) = lt-of-lt-of-le h (le-trans s (mono w v (omega arith)))
+
+none-settles : (f : ℕ → ℕ) (w e : ℕ) → Unsolved f w → e ≤ w → NoneIn (settles f) 1 e
+none-settles f w e uns l v p h = lt-leb (f v) v (uns v p (omega arith))
+
+-- past the limit: there is no solution up to it
+pub past-limit : (f : ℕ → ℕ) (w limit : ℕ) → Unsolved f w → limit < w → leastFrom (settles f) 1 limit ≡ Nothing
+past-limit f w limit uns l = least-nothing (settles f) limit 1 (none-settles f w (1 + limit) uns (omega arith))
+
+-- at rest: it is the least solution
+pub at-rest : (f : ℕ → ℕ) (w limit : ℕ) → Unsolved f w → 1 ≤ w → w ≤ limit → f w ≤ w → leastFrom (settles f) 1 limit ≡ At w
+at-rest f w limit uns p l h =
+    least-at (settles f) limit 1 w (record { from = p; below = omega arith; passes = le-leb (f w) w h; before = none-settles f w w uns (omega arith) })
+
+-- the same where only the existence is asked
+pub past-any : (f : ℕ → ℕ) (w limit : ℕ) → Unsolved f w → limit < w → anyFrom (settles f) 1 limit ≡ false
+past-any f w limit uns l = any-false (settles f) limit 1 (none-settles f w (1 + limit) uns (omega arith))
+
+pub rest-any : (f : ℕ → ℕ) (w limit : ℕ) → 1 ≤ w → w ≤ limit → f w ≤ w → anyFrom (settles f) 1 limit ≡ true
+rest-any f w limit p l h = any-true (settles f) limit 1 w p (omega arith) (le-leb (f w) w h)

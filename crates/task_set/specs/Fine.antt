@@ -1,0 +1,34 @@
+-- What the structs of a readable file hold, and what the functions of this crate give.
+--   FineTask, FinePart == the numbers of a task and of a part are in range: 1 ≤ C ≤ D ≤ T ≤ 2^20, c ≤ C, and every lock has a user
+--   DemandIs p r w x   == x is what the tasks k > r of the part ask for in w ticks
+-- Assumes nothing.
+use Prim.Native.Nat.{ℕ, _^_, _≤_, _<_}
+use mathlib.Core.Path.{_≡_}
+use mathlib.Core.List.{[]}
+use lib.ListN.{length, getD}
+use Rattle.task_set.specs.declared.Task.{Task}
+use Rattle.task_set.specs.declared.Part.{Part}
+use Rattle.task_set.specs.Tasks.{higher, demandIn, greatestHeld, tasksOf}
+
+-- what is read past the end of an array of tasks, which nobody does
+abbrev pub blankTask : Task
+blankTask = record { separation = 0; cost = 0; deadline = 0; uses = [] }
+
+pub record FineTask (t : Task) : Type 0 where
+  pub cost-some : 1 ≤ t .cost
+  pub cost-most : t .cost ≤ t .deadline
+  pub deadline-most : t .deadline ≤ t .separation
+  pub separation-most : t .separation ≤ 2 ^ 20
+  pub room : length (t .uses) ≡ 8
+  pub uses-most : (j : ℕ) → getD (t .uses) j 0 ≤ t .cost
+
+pub record FinePart (p : Part) : Type 0 where
+  pub few : p .count ≤ 16
+  pub room : length (p .tasks) ≡ 16
+  pub few-locks : p .locks ≤ 8
+  pub each : (k : ℕ) → k < p .count → FineTask (getD (p .tasks) k blankTask)
+  pub used : (l : ℕ) → 1 ≤ l → l ≤ p .locks → 1 ≤ greatestHeld l (tasksOf p)
+
+pub record DemandIs (p : Part) (r w x : ℕ) : Type 0 where
+  pub value : x ≡ demandIn (higher r (tasksOf p)) w
+  pub small : x ≤ 2 ^ 44
