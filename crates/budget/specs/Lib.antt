@@ -1,1 +1,2 @@
 pub mod Budget
+pub mod Code
