@@ -10,7 +10,7 @@ use borrow.Author.Tests.{eqb-true, ltb-true, not-true}
 use lib.Dec.{eqb, ltb}
 use Rattle.least.specs.declared.Least.the-variants.{At}
 use Rattle.least.specs.Lists.{every, joined, isEmpty, nthOr}
-use Rattle.least.proofs.Lists.{every-pass, every-fail}
+use Rattle.least.proofs.Lists.{and-iff, every-pass, every-fail}
 use Rattle.refusal.specs.Questions.{firstNo, whenAnswered, whenDone}
 use Rattle.refusal.specs.Questions.Answer.{answered}
 use Rattle.task_set.specs.declared.Task.{Task}
@@ -76,10 +76,6 @@ all-right : every isRight eighteen ≡ true
 unfolding opened isRight
 all-right = refl
 
-both : (a b : Bool) → a && b ≡ true → (a ≡ true) × (b ≡ true)
-both true b e = (refl, e)
-both false b e = absurd (false≢true e)
-
 right-candidate : (t : Tried) → isRight t ≡ true → candidateOf 250 six 2 (settingOf t) ≡ t .found ∷ []
 unfolding isRight candidateOf
 right-candidate t e =
@@ -87,11 +83,11 @@ right-candidate t e =
     let below = t .found .budget - 1 in
     let fails = not (passes 250 six 2 σ below) in
     let succeeds = passes 250 six 2 σ (below + 1) in
-    let p : (permitted six 2 σ ≡ true) × _ = both (permitted six 2 σ) _ e in
-    let x = both (eqb (holdingTimeOf six 2 σ) (t .found .holding)) (eqb (below + 1) (t .found .budget) && (ltb below 250 && (fails && succeeds))) (p .1) in
-    let b = both (eqb (below + 1) (t .found .budget)) (ltb below 250 && (fails && succeeds)) (x .1) in
-    let l = both (ltb below 250) (fails && succeeds) (b .1) in
-    let f = both fails succeeds (l .1) in
+    let p : (permitted six 2 σ ≡ true) × _ = and-iff (permitted six 2 σ) _ .0 e in
+    let x = and-iff (eqb (holdingTimeOf six 2 σ) (t .found .holding)) (eqb (below + 1) (t .found .budget) && (ltb below 250 && (fails && succeeds))) .0 (p .1) in
+    let b = and-iff (eqb (below + 1) (t .found .budget)) (ltb below 250 && (fails && succeeds)) .0 (x .1) in
+    let l = and-iff (ltb below 250) (fails && succeeds) .0 (b .1) in
+    let f = and-iff fails succeeds .0 (l .1) in
     let least : leastBudget 250 six 2 σ ≡ At (below + 1) = budget-after 250 six 2 σ below (ltb-true below 250 (l .0)) (not-true (passes 250 six 2 σ below) (f .0)) (f .1) in
     rw (p .0, least) (ap₂ (λ (Q X : ℕ). pair Q X ∷ []) (eqb-true (below + 1) (t .found .budget) (b .0)) (eqb-true (holdingTimeOf six 2 σ) (t .found .holding) (x .0)))
 

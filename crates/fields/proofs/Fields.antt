@@ -2,24 +2,18 @@
 -- Assumes nothing.
 use Prim.Native.Nat.{ℕ, _≤_}
 use native.Mathlib.Omega.{arith}
-use mathlib.Core.Path.{_≡_, refl, sym, ap, _∙_}
+use mathlib.Core.Path.{_≡_}
 use mathlib.Core.Logic.{_↔_}
-use mathlib.Core.Bool.{Bool, true, false, not, _&&_, false≢true}
+use mathlib.Core.Bool.{true, false, not, _&&_}
 use mathlib.Core.List.{List, [], _∷_}
 use borrow.Author.Tests.{leb-true, le-leb, ne-eqb, not-true}
 use lib.Dec.{leb}
 use lib.ListN.{length}
 use Rattle.least.specs.Lists.{every}
+use Rattle.least.proofs.Lists.{and-iff}
 use Rattle.text.specs.Decimal.{isDigit, valueOf, digitsOf}
 use Rattle.text.proofs.Decimal.{FirstDigit, value-digits, digits-digits, digits-first}
 use Rattle.fields.specs.Fields.{isNameByte, isName, leadingZero, isNumber}
-
-both : (a b : Bool) → a && b ≡ true → (a ≡ true) × (b ≡ true)
-both true b e = (refl, e)
-both false b e = absurd (false≢true e)
-
-both-true : (a b : Bool) → a ≡ true → b ≡ true → a && b ≡ true
-both-true a b e f = simp (e, f)
 
 -- a number of a file: digits, without leading zero, from 1 to 65,535
 pub record Number (bs : List ℕ) : Type 0 where
@@ -34,9 +28,9 @@ number-iff bs = (is, so)
   where
     is : (every isDigit bs && not (leadingZero bs)) && (leb 1 (valueOf bs) && leb (valueOf bs) 65535) ≡ true → Number bs
     is e =
-        let p = both (every isDigit bs && not (leadingZero bs)) (leb 1 (valueOf bs) && leb (valueOf bs) 65535) e in
-        let d = both (every isDigit bs) (not (leadingZero bs)) (p .0) in
-        let v = both (leb 1 (valueOf bs)) (leb (valueOf bs) 65535) (p .1) in
+        let p = and-iff (every isDigit bs && not (leadingZero bs)) (leb 1 (valueOf bs) && leb (valueOf bs) 65535) .0 e in
+        let d = and-iff (every isDigit bs) (not (leadingZero bs)) .0 (p .0) in
+        let v = and-iff (leb 1 (valueOf bs)) (leb (valueOf bs) 65535) .0 (p .1) in
         record { digits = d .0; plain = not-true (leadingZero bs) (d .1); from = leb-true 1 (valueOf bs) (v .0); to = leb-true (valueOf bs) 65535 (v .1) }
 
     so : Number bs → (every isDigit bs && not (leadingZero bs)) && (leb 1 (valueOf bs) && leb (valueOf bs) 65535) ≡ true
@@ -63,8 +57,8 @@ name-iff bs = (is, so)
   where
     is : (leb 1 (length bs) && leb (length bs) 8) && every isNameByte bs ≡ true → Name bs
     is e =
-        let p = both (leb 1 (length bs) && leb (length bs) 8) (every isNameByte bs) e in
-        let l = both (leb 1 (length bs)) (leb (length bs) 8) (p .0) in
+        let p = and-iff (leb 1 (length bs) && leb (length bs) 8) (every isNameByte bs) .0 e in
+        let l = and-iff (leb 1 (length bs)) (leb (length bs) 8) .0 (p .0) in
         record { from = leb-true 1 (length bs) (l .0); to = leb-true (length bs) 8 (l .1); bytes = p .1 }
 
     so : Name bs → (leb 1 (length bs) && leb (length bs) 8) && every isNameByte bs ≡ true

@@ -1,14 +1,11 @@
-// Questions 3 to 9 of a record, against what the lines above say.
-use fields::Number;
-use records::Shape;
+// What the reader keeps of the lines above, and what a record enters.
 use refusal::Refusal;
 use scan::Span;
 use task_set::Task;
 ghost use mathlib.Core.Path.{_≡_};
-ghost use mathlib.Core.Bool.{_&&_};
-ghost use Prim.Native.Nat.{_≤_, _<_};
+ghost use Prim.Native.Nat.{_<_};
 ghost use Rattle.scan.specs.Scan.{bytesOf};
-ghost use Rattle.plan_file.specs.Entries.{FineNames, FineSeen, noNames, noTaskRead, noneSeen, useAt, withName, withLockName, placeOf, namesOf, timesIn, partEntry, taskEntry, lockEntry, endEntry, entryOf, seenPart, seenTask, seenLock, seenEnd};
+ghost use Rattle.plan_file.specs.Entries.{FineNames, noNames, noTaskRead, noneSeen, withName, withLockName, placeOf, namesOf, seenPart, seenTask, seenLock, seenEnd};
 
 // Names in the order of their lines, as stretches of the file.
 pub struct Names {
@@ -35,12 +32,6 @@ pub enum Entry {
     End,
     Refused(Refusal),
 }
-
-const PART_LIMIT: usize = 16;
-
-const TASK_LIMIT: usize = 16;
-
-const LOCK_LIMIT: usize = 8;
 
 pub fn no_names() -> Names
     ensures { λ r. ⌜ r ≡ noNames ⌝ }
@@ -81,204 +72,10 @@ pub fn with_name(names: Names, p: Span) -> Names
     Names { count: n + 1, span }
 }
 
-fn ask_part(s: &[u8], line: u64, allowed: bool, parts: Names, name: Span, period: Span) -> Entry
-    requires { ⌜ FineNames parts ⌝ }
-    ensures { λ r. ⌜ r ≡ partEntry (now (s .entry)) line allowed parts name period ⌝ }
-{
-    if !allowed {
-        return Entry::Refused(Refusal::Misplaced(line));
-    }
-    if !fields::is_name(scan::bytes(s, name)) {
-        return Entry::Refused(Refusal::BadName(line));
-    }
-    let n = parts.count;
-    if place_in(s, parts, name) < n {
-        return Entry::Refused(Refusal::KnownName(line));
-    }
-    match fields::read_number(scan::bytes(s, period)) {
-        Number::Malformed => Entry::Refused(Refusal::BadNumber(line)),
-        Number::Is(p) => {
-            if PART_LIMIT <= n {
-                return Entry::Refused(Refusal::TooMany(line));
-            }
-            Entry::Part(name, p)
-        }
-    }
-}
-
 // A task's three numbers, or that one of them is malformed.
 pub enum Times {
     Are(u64, u64, u64),
     Malformed,
-}
-
-fn read_times(s: &[u8], separation: Span, cost: Span, deadline: Span) -> Times
-    ensures { λ r. ⌜ r ≡ timesIn (bytesOf (now (s .entry)) separation) (bytesOf (now (s .entry)) cost) (bytesOf (now (s .entry)) deadline) ⌝ }
-{
-    let Number::Is(t) = fields::read_number(scan::bytes(s, separation)) else {
-        return Times::Malformed;
-    };
-    let Number::Is(c) = fields::read_number(scan::bytes(s, cost)) else {
-        return Times::Malformed;
-    };
-    let Number::Is(d) = fields::read_number(scan::bytes(s, deadline)) else {
-        return Times::Malformed;
-    };
-    Times::Are(t, c, d)
-}
-
-fn ask_task(
-    s: &[u8],
-    line: u64,
-    allowed: bool,
-    tasks: Names,
-    name: Span,
-    separation: Span,
-    cost: Span,
-    deadline: Span,
-) -> Entry
-    requires { ⌜ FineNames tasks ⌝ }
-    ensures { λ r. ⌜ r ≡ taskEntry (now (s .entry)) line allowed tasks name separation cost deadline ⌝ }
-{
-    if !allowed {
-        return Entry::Refused(Refusal::Misplaced(line));
-    }
-    if !fields::is_name(scan::bytes(s, name)) {
-        return Entry::Refused(Refusal::BadName(line));
-    }
-    let n = tasks.count;
-    if place_in(s, tasks, name) < n {
-        return Entry::Refused(Refusal::KnownName(line));
-    }
-    match read_times(s, separation, cost, deadline) {
-        Times::Malformed => Entry::Refused(Refusal::BadNumber(line)),
-        Times::Are(t, c, d) => {
-            if d < c {
-                return Entry::Refused(Refusal::BadOrder(line));
-            }
-            if t < d {
-                return Entry::Refused(Refusal::BadOrder(line));
-            }
-            if TASK_LIMIT <= n {
-                return Entry::Refused(Refusal::TooMany(line));
-            }
-            Entry::Task(name, t, c, d)
-        }
-    }
-}
-
-// How long a task holds the lock at the place j of its part; 0 where it does not use it.
-fn use_at(task: Task, j: usize) -> u64
-    ensures { λ r. ⌜ r ≡ useAt task j ⌝ }
-{
-    if 8 <= j {
-        return 0;
-    }
-    let uses = task.uses;
-    uses[j]
-}
-
-fn ask_lock(
-    s: &[u8],
-    line: u64,
-    allowed: bool,
-    last: Task,
-    locks: Names,
-    name: Span,
-    held: Span,
-) -> Entry
-    requires { ⌜ FineNames locks × (locks .count ≤ 8) ⌝ }
-    ensures { λ r. ⌜ r ≡ lockEntry (now (s .entry)) line allowed last locks name held ⌝ }
-{
-    if !allowed {
-        return Entry::Refused(Refusal::Misplaced(line));
-    }
-    if !fields::is_name(scan::bytes(s, name)) {
-        return Entry::Refused(Refusal::BadName(line));
-    }
-    let j = place_in(s, locks, name);
-    if 1 <= use_at(last, j) {
-        return Entry::Refused(Refusal::KnownName(line));
-    }
-    match fields::read_number(scan::bytes(s, held)) {
-        Number::Malformed => Entry::Refused(Refusal::BadNumber(line)),
-        Number::Is(c) => {
-            if last.cost < c {
-                return Entry::Refused(Refusal::BadOrder(line));
-            }
-            if LOCK_LIMIT <= j {
-                return Entry::Refused(Refusal::TooMany(line));
-            }
-            Entry::Lock(name, j, c)
-        }
-    }
-}
-
-fn ask_end(line: u64, allowed: bool) -> Entry
-    ensures { λ r. ⌜ r ≡ endEntry line allowed ⌝ }
-{
-    if !allowed {
-        return Entry::Refused(Refusal::Misplaced(line));
-    }
-    Entry::End
-}
-
-// Both of two answers are yes.
-fn both(a: bool, b: bool) -> bool
-    ensures { λ r. ⌜ r ≡ a && b ⌝ }
-{
-    if a { b } else { false }
-}
-
-// Questions 3 to 9 of the record on a line.
-pub fn entry_at(s: &[u8], line: u64, seen: Seen, r: Shape) -> Entry
-    requires { ⌜ FineSeen seen ⌝ }
-    ensures { λ x. ⌜ x ≡ entryOf (now (s .entry)) line seen r ⌝ }
-{
-    let open = !seen.ended;
-    let not_fresh = !seen.fresh;
-    let parts = seen.parts;
-    let tasks = seen.tasks;
-    match r {
-        Shape::Part { name, period } => ask_part(
-            s,
-            line,
-            both(open, not_fresh),
-            parts,
-            name,
-            period,
-        ),
-        Shape::Task {
-            name,
-            separation,
-            cost,
-            deadline,
-        } => ask_task(
-            s,
-            line,
-            both(open, 1 <= parts.count),
-            tasks,
-            name,
-            separation,
-            cost,
-            deadline,
-        ),
-        Shape::Lock { name, held } => {
-            let last = seen.last;
-            let locks = seen.locks;
-            ask_lock(
-                s,
-                line,
-                both(open, 1 <= tasks.count),
-                last,
-                locks,
-                name,
-                held,
-            )
-        }
-        Shape::End => ask_end(line, both(open, both(not_fresh, 1 <= parts.count))),
-        Shape::Unknown => Entry::Refused(Refusal::BadRecord(line)),
-    }
 }
 
 pub fn no_task() -> Task

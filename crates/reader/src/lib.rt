@@ -109,7 +109,7 @@ pub fn read_file(s: &[u8]) -> PlanFile
                 let ts = seen.tasks;
                 let ls = seen.locks;
                 let n = ts.count;
-                match plan_file::entry_at(s, line, seen, shape) {
+                match questions::entry_at(s, line, seen, shape) {
                     Entry::Refused(r) => {
                         return refused_file(r);
                     }

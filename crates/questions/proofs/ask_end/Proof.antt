@@ -1,10 +1,10 @@
--- `plan_file::ask_end` meets its contract.
+-- `questions::ask_end` meets its contract.
 -- Assumes nothing.
 use borrow.Author.Tests.{not-true, not-false}
 use Rattle.refusal.specs.Questions.{firstNo}
 use Rattle.plan_file.specs.Entries.{endEntry, entryIf}
-use Rattle.plan_file.proofs.ask_end.Statement.{statement}
-use Rattle.plan_file.proofs.ask_end.Tie as tie
+use Rattle.questions.proofs.ask_end.Statement.{statement}
+use Rattle.questions.proofs.ask_end.Tie as tie
 
 returns : tie.Need-returns
 unfolding endEntry entryIf firstNo

@@ -1,15 +1,15 @@
--- `plan_file::ask_lock` meets its contract: each way through it is a law of `Asking`.
+-- `lock_line::ask_lock` meets its contract: each way through it is a law of `Asking`.
 -- Assumes nothing.
 use Prim.Native.Nat.{_<_}
 use mathlib.Core.Path.{_≡_, refl}
 use mathlib.Core.Bool.{true, false}
 use borrow.Author.Tests.{not-true, not-false}
 use Rattle.scan.specs.Scan.{bytesOf}
 use Rattle.plan_file.specs.Entries.{useAt}
 use Rattle.plan_file.proofs.Asking.{NumberIs, number-is, number-malformed, Named, lock-misplaced, lock-misnamed, lock-known, lock-misnumbered, lock-long, lock-too-many, lock-enters}
 use borrow.Author.Needs.{needs}
-use Rattle.plan_file.proofs.ask_lock.Statement.{statement}
-use Rattle.plan_file.proofs.ask_lock.Tie as tie
+use Rattle.lock_line.proofs.ask_lock.Statement.{statement}
+use Rattle.lock_line.proofs.ask_lock.Tie as tie
 
 -- behind question 5
 abbrev start : tie.Else2 → tie.Start

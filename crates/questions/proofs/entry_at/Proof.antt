@@ -1,9 +1,9 @@
--- `plan_file::entry_at` meets its contract: each kind of record has its own function.
+-- `questions::entry_at` meets its contract: each kind of record has its own function.
 -- Assumes nothing.
 use Rattle.plan_file.specs.Entries.{entryOf}
 use borrow.Author.Needs.{needs}
-use Rattle.plan_file.proofs.entry_at.Statement.{statement}
-use Rattle.plan_file.proofs.entry_at.Tie as tie
+use Rattle.questions.proofs.entry_at.Statement.{statement}
+use Rattle.questions.proofs.entry_at.Tie as tie
 
 enum-known-r : tie.Need-enum-known-r
 enum-known-r c = search needs

@@ -1,12 +1,12 @@
--- `plan_file::use_at` meets its contract: a task has eight places for its locks.
+-- `lock_line::use_at` meets its contract: a task has eight places for its locks.
 -- Assumes nothing.
 use mathlib.Core.Path.{_≡_, refl, sym, _∙_}
 use lib.ListN.{length, length-map, List·getD-eq-default}
 use native.Mathlib.Omega.{arith}
 use Rattle.plan_file.specs.Entries.{useAt}
 use borrow.Author.Needs.{needs}
-use Rattle.plan_file.proofs.use_at.Statement.{statement}
-use Rattle.plan_file.proofs.use_at.Tie as tie
+use Rattle.lock_line.proofs.use_at.Statement.{statement}
+use Rattle.lock_line.proofs.use_at.Tie as tie
 
 returns : tie.Need-returns
 unfolding useAt

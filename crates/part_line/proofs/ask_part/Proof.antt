@@ -1,15 +1,15 @@
--- `plan_file::ask_part` meets its contract: each way through it is a law of `Asking`.
+-- `part_line::ask_part` meets its contract: each way through it is a law of `Asking`.
 -- Assumes nothing.
 use Prim.Native.Nat.{_≤_}
 use mathlib.Core.Path.{_≡_}
 use mathlib.Core.Bool.{true, false}
 use borrow.Author.Tests.{not-true, not-false}
 use Rattle.scan.specs.Scan.{bytesOf}
 use Rattle.plan_file.specs.Entries.{namesOf, placeOf}
 use Rattle.plan_file.proofs.Asking.{NumberIs, number-is, number-malformed, Named, part-misplaced, part-misnamed, part-known, part-misnumbered, part-too-many, part-enters}
 use borrow.Author.Needs.{needs}
-use Rattle.plan_file.proofs.ask_part.Statement.{statement}
-use Rattle.plan_file.proofs.ask_part.Tie as tie
+use Rattle.part_line.proofs.ask_part.Statement.{statement}
+use Rattle.part_line.proofs.ask_part.Tie as tie
 
 -- behind question 5
 abbrev start : tie.Else2 → tie.Start

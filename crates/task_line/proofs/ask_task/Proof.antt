@@ -1,15 +1,15 @@
--- `plan_file::ask_task` meets its contract: each way through it is a law of `Asking`.
+-- `task_line::ask_task` meets its contract: each way through it is a law of `Asking`.
 -- Assumes nothing.
 use Prim.Native.Nat.{_≤_}
 use mathlib.Core.Path.{_≡_}
 use mathlib.Core.Bool.{true, false}
 use borrow.Author.Tests.{not-true, not-false}
 use Rattle.scan.specs.Scan.{bytesOf}
 use Rattle.plan_file.specs.Entries.{namesOf, placeOf}
 use Rattle.plan_file.proofs.Asking.{TimesAre, times-are, times-malformed, Named, task-misplaced, task-misnamed, task-known, task-misnumbered, task-late, task-slow, task-too-many, task-enters}
 use borrow.Author.Needs.{needs}
-use Rattle.plan_file.proofs.ask_task.Statement.{statement}
-use Rattle.plan_file.proofs.ask_task.Tie as tie
+use Rattle.task_line.proofs.ask_task.Statement.{statement}
+use Rattle.task_line.proofs.ask_task.Tie as tie
 
 -- behind question 5
 abbrev start : tie.Else2 → tie.Start

@@ -1,9 +1,9 @@
--- `plan_file::read_times` meets its contract.
+-- `task_line::read_times` meets its contract.
 -- Assumes nothing.
 use Rattle.plan_file.proofs.Asking.{number-is, number-malformed, times-first, times-second, times-third, times-all}
 use borrow.Author.Needs.{needs}
-use Rattle.plan_file.proofs.read_times.Statement.{statement}
-use Rattle.plan_file.proofs.read_times.Tie as tie
+use Rattle.task_line.proofs.read_times.Statement.{statement}
+use Rattle.task_line.proofs.read_times.Tie as tie
 
 bytes-requires : tie.Need-bytes-requires
 bytes-requires c κs = search needs

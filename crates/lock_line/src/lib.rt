@@ -1,0 +1,60 @@
+// Questions 4 to 9 of a `lock` line.
+use fields::Number;
+use plan_file::Entry;
+use plan_file::Names;
+use refusal::Refusal;
+use scan::Span;
+use task_set::Task;
+ghost use mathlib.Core.Path.{_≡_};
+ghost use Prim.Native.Nat.{_≤_};
+ghost use Rattle.plan_file.specs.Entries.{FineNames, useAt, lockEntry};
+
+// The greatest number of different lock names in a part.
+const LOCK_LIMIT: usize = 8;
+
+// How long a task holds the lock at the place j of its part; 0 where it does not use it.
+fn use_at(task: Task, j: usize) -> u64
+    ensures { λ r. ⌜ r ≡ useAt task j ⌝ }
+{
+    if 8 <= j {
+        return 0;
+    }
+    let uses = task.uses;
+    uses[j]
+}
+
+pub fn ask_lock(
+    s: &[u8],
+    line: u64,
+    allowed: bool,
+    last: Task,
+    locks: Names,
+    name: Span,
+    held: Span,
+) -> Entry
+    requires { ⌜ FineNames locks × (locks .count ≤ 8) ⌝ }
+    ensures { λ r. ⌜ r ≡ lockEntry (now (s .entry)) line allowed last locks name held ⌝ }
+{
+    if !allowed {
+        return Entry::Refused(Refusal::Misplaced(line));
+    }
+    if !fields::is_name(scan::bytes(s, name)) {
+        return Entry::Refused(Refusal::BadName(line));
+    }
+    let j = plan_file::place_in(s, locks, name);
+    if 1 <= use_at(last, j) {
+        return Entry::Refused(Refusal::KnownName(line));
+    }
+    match fields::read_number(scan::bytes(s, held)) {
+        Number::Malformed => Entry::Refused(Refusal::BadNumber(line)),
+        Number::Is(c) => {
+            if last.cost < c {
+                return Entry::Refused(Refusal::BadOrder(line));
+            }
+            if LOCK_LIMIT <= j {
+                return Entry::Refused(Refusal::TooMany(line));
+            }
+            Entry::Lock(name, j, c)
+        }
+    }
+}

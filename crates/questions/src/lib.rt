@@ -1,0 +1,75 @@
+// Questions 3 to 9 of a record, against what the lines above say.
+use plan_file::Entry;
+use plan_file::Seen;
+use records::Shape;
+use refusal::Refusal;
+ghost use mathlib.Core.Path.{_≡_};
+ghost use mathlib.Core.Bool.{_&&_};
+ghost use Rattle.plan_file.specs.Entries.{FineSeen, endEntry, entryOf};
+
+fn ask_end(line: u64, allowed: bool) -> Entry
+    ensures { λ r. ⌜ r ≡ endEntry line allowed ⌝ }
+{
+    if !allowed {
+        return Entry::Refused(Refusal::Misplaced(line));
+    }
+    Entry::End
+}
+
+// Both of two answers are yes.
+fn both(a: bool, b: bool) -> bool
+    ensures { λ r. ⌜ r ≡ a && b ⌝ }
+{
+    if a { b } else { false }
+}
+
+// Questions 3 to 9 of the record on a line.
+pub fn entry_at(s: &[u8], line: u64, seen: Seen, r: Shape) -> Entry
+    requires { ⌜ FineSeen seen ⌝ }
+    ensures { λ x. ⌜ x ≡ entryOf (now (s .entry)) line seen r ⌝ }
+{
+    let open = !seen.ended;
+    let not_fresh = !seen.fresh;
+    let parts = seen.parts;
+    let tasks = seen.tasks;
+    match r {
+        Shape::Part { name, period } => part_line::ask_part(
+            s,
+            line,
+            both(open, not_fresh),
+            parts,
+            name,
+            period,
+        ),
+        Shape::Task {
+            name,
+            separation,
+            cost,
+            deadline,
+        } => task_line::ask_task(
+            s,
+            line,
+            both(open, 1 <= parts.count),
+            tasks,
+            name,
+            separation,
+            cost,
+            deadline,
+        ),
+        Shape::Lock { name, held } => {
+            let last = seen.last;
+            let locks = seen.locks;
+            lock_line::ask_lock(
+                s,
+                line,
+                both(open, 1 <= tasks.count),
+                last,
+                locks,
+                name,
+                held,
+            )
+        }
+        Shape::End => ask_end(line, both(open, both(not_fresh, 1 <= parts.count))),
+        Shape::Unknown => Entry::Refused(Refusal::BadRecord(line)),
+    }
+}

@@ -1,0 +1,68 @@
+// Questions 4 to 9 of a `task` line.
+use fields::Number;
+use plan_file::Entry;
+use plan_file::Names;
+use plan_file::Times;
+use refusal::Refusal;
+use scan::Span;
+ghost use mathlib.Core.Path.{_≡_};
+ghost use Rattle.scan.specs.Scan.{bytesOf};
+ghost use Rattle.plan_file.specs.Entries.{FineNames, timesIn, taskEntry};
+
+// The greatest number of tasks in a part.
+const TASK_LIMIT: usize = 16;
+
+fn read_times(s: &[u8], separation: Span, cost: Span, deadline: Span) -> Times
+    ensures { λ r. ⌜ r ≡ timesIn (bytesOf (now (s .entry)) separation) (bytesOf (now (s .entry)) cost) (bytesOf (now (s .entry)) deadline) ⌝ }
+{
+    let Number::Is(t) = fields::read_number(scan::bytes(s, separation)) else {
+        return Times::Malformed;
+    };
+    let Number::Is(c) = fields::read_number(scan::bytes(s, cost)) else {
+        return Times::Malformed;
+    };
+    let Number::Is(d) = fields::read_number(scan::bytes(s, deadline)) else {
+        return Times::Malformed;
+    };
+    Times::Are(t, c, d)
+}
+
+pub fn ask_task(
+    s: &[u8],
+    line: u64,
+    allowed: bool,
+    tasks: Names,
+    name: Span,
+    separation: Span,
+    cost: Span,
+    deadline: Span,
+) -> Entry
+    requires { ⌜ FineNames tasks ⌝ }
+    ensures { λ r. ⌜ r ≡ taskEntry (now (s .entry)) line allowed tasks name separation cost deadline ⌝ }
+{
+    if !allowed {
+        return Entry::Refused(Refusal::Misplaced(line));
+    }
+    if !fields::is_name(scan::bytes(s, name)) {
+        return Entry::Refused(Refusal::BadName(line));
+    }
+    let n = tasks.count;
+    if plan_file::place_in(s, tasks, name) < n {
+        return Entry::Refused(Refusal::KnownName(line));
+    }
+    match read_times(s, separation, cost, deadline) {
+        Times::Malformed => Entry::Refused(Refusal::BadNumber(line)),
+        Times::Are(t, c, d) => {
+            if d < c {
+                return Entry::Refused(Refusal::BadOrder(line));
+            }
+            if t < d {
+                return Entry::Refused(Refusal::BadOrder(line));
+            }
+            if TASK_LIMIT <= n {
+                return Entry::Refused(Refusal::TooMany(line));
+            }
+            Entry::Task(name, t, c, d)
+        }
+    }
+}
