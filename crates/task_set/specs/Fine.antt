@@ -8,25 +8,25 @@ use mathlib.Core.List.{[]}
 use lib.ListN.{length, getD}
 use Rattle.task_set.specs.declared.Task.{Task}
 use Rattle.task_set.specs.declared.Part.{Part}
-use Rattle.task_set.specs.Tasks.{higher, demandIn, greatestHeld, tasksOf}
+use Rattle.task_set.specs.Tasks.{heldFor, higher, demandIn, greatestHeld, tasksOf}
 
 -- what is read past the end of an array of tasks, which nobody does
 abbrev pub blankTask : Task
 blankTask = record { separation = 0; cost = 0; deadline = 0; uses = [] }
 
-pub record FineTask (t : Task) : Type 0 where
+-- of a part with m locks
+pub record FineTask (m : ℕ) (t : Task) : Type 0 where
   pub cost-some : 1 ≤ t .cost
   pub cost-most : t .cost ≤ t .deadline
   pub deadline-most : t .deadline ≤ t .separation
   pub separation-most : t .separation ≤ 2 ^ 20
-  pub room : length (t .uses) ≡ 8
-  pub uses-most : (j : ℕ) → getD (t .uses) j 0 ≤ t .cost
+  pub uses-most : (l : ℕ) → 1 ≤ l → l ≤ m → heldFor l t ≤ t .cost
 
 pub record FinePart (p : Part) : Type 0 where
   pub few : p .count ≤ 16
   pub room : length (p .tasks) ≡ 16
   pub few-locks : p .locks ≤ 8
-  pub each : (k : ℕ) → k < p .count → FineTask (getD (p .tasks) k blankTask)
+  pub each : (k : ℕ) → k < p .count → FineTask (p .locks) (getD (p .tasks) k blankTask)
   pub used : (l : ℕ) → 1 ≤ l → l ≤ p .locks → 1 ≤ greatestHeld l (tasksOf p)
 
 pub record DemandIs (p : Part) (r w x : ℕ) : Type 0 where

@@ -21,7 +21,7 @@ abbrev μ-loop : tie.MeasureT-loop
 μ-loop i b q part task limit t₀ t = limit + 1 - t
 
 -- the task's numbers are in range
-task : (c : tie.Start Inv-loop μ-loop) → FineTask (getD (c .args .t1 .tasks) (c .args .i) blankTask)
+task : (c : tie.Start Inv-loop μ-loop) → FineTask (c .args .t1 .locks) (getD (c .args .t1 .tasks) (c .args .i) blankTask)
 task c = c .pre .0 .each (c .args .i) (c .pre .1)
 
 mul-task : tie.Need-mul-task Inv-loop μ-loop

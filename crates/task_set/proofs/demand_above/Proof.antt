@@ -22,7 +22,7 @@ whole : (c : tie.Start Inv-loop μ-loop) → demandIn (drop (c .args .r) (tasksO
 whole c = demand-small (c .args .t1) (c .pre .0) (c .args .r) (c .args .w) (c .pre .1)
 
 -- the turn's task
-ok : (c : tie.In-loop Inv-loop μ-loop) → FineTask (getD (c .before .before .args .t1 .tasks) (c .before .loop .k) blankTask)
+ok : (c : tie.In-loop Inv-loop μ-loop) → FineTask (c .before .before .args .t1 .locks) (getD (c .before .before .args .t1 .tasks) (c .before .loop .k) blankTask)
 ok c = c .before .before .pre .0 .each (c .before .loop .k) (c .loop-test .taken)
 
 -- what the turn adds, and what is left
