@@ -11,3 +11,4 @@ pub mod Sums
 pub mod Fraction
 pub mod Pad
 pub mod Iterate
+pub mod Fill

@@ -2,3 +2,5 @@ pub mod Demand
 pub mod Blocking
 pub mod SettingsAgree
 pub mod Places
+pub mod Times
+pub mod ByColumn

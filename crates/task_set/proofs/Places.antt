@@ -19,7 +19,7 @@ use Rattle.task_set.specs.Fine.{blankTask, FineTask, FinePart}
 use Rattle.task_set.proofs.Demand.{Separated}
 use Rattle.task_set.proofs.Demand.Separated.{none, more}
 
-drop-map : {A B : Type 0} (f : A → B) (k : ℕ) (l : List A) → drop k (map f l) ≡ map f (drop k l)
+pub drop-map : {A B : Type 0} (f : A → B) (k : ℕ) (l : List A) → drop k (map f l) ≡ map f (drop k l)
 drop-map f zero l = refl
 drop-map f (suc k) [] = refl
 drop-map f (suc k) (x ∷ l) = drop-map f k l
@@ -44,34 +44,3 @@ module _ (p : Part) (fine : FinePart p) where
   pub demand-none : (k w : ℕ) → p .count ≤ k → demandIn (drop k (tasksOf p)) w ≡ 0
   unfolding demandIn sum
   demand-none k w h = rw (tasks-end k h) refl
-
-  pub share-small : (k w : ℕ) → k < p .count → w ≤ 2 ^ 20 → ceilDiv w (getD (p .tasks) k blankTask .separation) * getD (p .tasks) k blankTask .cost ≤ 2 ^ 20 * 2 ^ 20
-  share-small k w h l =
-      let t = fine .each k h in
-      let f : ceilDiv w (getD (p .tasks) k blankTask .separation) ≤ 2 ^ 20 = le-trans (ceil-le w (getD (p .tasks) k blankTask .separation) (omega arith)) l in
-      product (2 ^ 20) (2 ^ 20) f (omega arith)
-
-  demand-few : (d k w : ℕ) → p .count ≤ k + d → w ≤ 2 ^ 20 → demandIn (drop k (tasksOf p)) w ≤ 2 ^ 40 * d
-  demand-few zero k w h l = omega (arith, demand-none k w (omega arith))
-  demand-few (suc d) k w h l = go (decLt k (p .count)) (demand-few d (suc k) w (omega arith) l)
-    where
-      go : Dec (k < p .count) → demandIn (drop (suc k) (tasksOf p)) w ≤ 2 ^ 40 * d → demandIn (drop k (tasksOf p)) w ≤ 2 ^ 40 * suc d
-      go (yes q) ih = omega (arith, demand-next k w q, share-small k w q l)
-      go (no q) ih = omega (arith, demand-none k w (omega arith))
-
-  pub demand-small : (k w : ℕ) → w ≤ 2 ^ 20 → demandIn (drop k (tasksOf p)) w ≤ 2 ^ 44
-  demand-small k w l = omega (arith, demand-few 16 k w (omega (arith, fine .few)) l)
-
-  separated-from : (d k : ℕ) → p .count ≤ k + d → Separated (drop k (tasksOf p))
-  separated-from zero k h = rw (tasks-end k (omega arith)) none
-  separated-from (suc d) k h = go (decLt k (p .count)) (separated-from d (suc k) (omega arith))
-    where
-      go : Dec (k < p .count) → Separated (drop (suc k) (tasksOf p)) → Separated (drop k (tasksOf p))
-      go (yes q) ih =
-          let t = fine .each k q in
-          let some : 1 ≤ getD (p .tasks) k blankTask .separation = omega arith in
-          rw (tasks-at k q) (more some ih)
-      go (no q) ih = rw (tasks-end k (omega arith)) none
-
-  pub fine-separated : Separated (tasksOf p)
-  fine-separated = separated-from (p .count) 0 (omega arith)

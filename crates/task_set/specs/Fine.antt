@@ -1,6 +1,5 @@
--- What the structs of a readable file hold, and what the functions of this crate give.
+-- What the structs of a readable file hold.
 --   FineTask, FinePart == the numbers of a task and of a part are in range: 1 ≤ C ≤ D ≤ T ≤ 2^20, c ≤ C, and every lock has a user
---   DemandIs p r w x   == x is what the tasks k > r of the part ask for in w ticks
 -- Assumes nothing.
 use Prim.Native.Nat.{ℕ, _^_, _≤_, _<_}
 use mathlib.Core.Path.{_≡_}
@@ -8,7 +7,7 @@ use mathlib.Core.List.{[]}
 use lib.ListN.{length, getD}
 use Rattle.task_set.specs.declared.Task.{Task}
 use Rattle.task_set.specs.declared.Part.{Part}
-use Rattle.task_set.specs.Tasks.{heldFor, higher, demandIn, greatestHeld, tasksOf}
+use Rattle.task_set.specs.Tasks.{heldFor, greatestHeld, tasksOf}
 
 -- what is read past the end of an array of tasks, which nobody does
 abbrev pub blankTask : Task
@@ -28,7 +27,3 @@ pub record FinePart (p : Part) : Type 0 where
   pub few-locks : p .locks ≤ 8
   pub each : (k : ℕ) → k < p .count → FineTask (p .locks) (getD (p .tasks) k blankTask)
   pub used : (l : ℕ) → 1 ≤ l → l ≤ p .locks → 1 ≤ greatestHeld l (tasksOf p)
-
-pub record DemandIs (p : Part) (r w x : ℕ) : Type 0 where
-  pub value : x ≡ demandIn (higher r (tasksOf p)) w
-  pub small : x ≤ 2 ^ 44

@@ -1,3 +1,4 @@
 pub mod Tasks
 pub mod Blocking
 pub mod Fine
+pub mod ByColumn

@@ -2,56 +2,68 @@
 -- Assumes nothing.
 use Prim.Native.Nat.{ℕ, suc, _+_, _-_, _*_, _^_, _≤_, _<_}
 use mathlib.Core.Path.{_≡_}
+use mathlib.Core.List.{List}
 use lib.ListN.{drop, getD}
 use native.Mathlib.Numerals.{add-one}
 use native.Mathlib.Omega.{arith}
-use Rattle.task_set.specs.Tasks.{demandIn, tasksOf}
-use Rattle.task_set.specs.Fine.{blankTask, FineTask}
-use Rattle.task_set.proofs.Places.{demand-none, demand-next, demand-small, share-small}
+use borrow.Author.Needs.{needs}
+use Rattle.task_set.specs.declared.Task.{Task}
+use Rattle.task_set.specs.Tasks.{demandIn}
+use Rattle.task_set.specs.ByColumn.{timesOf, FineTime}
+use Rattle.task_set.proofs.Times.{times-none, times-next, times-small}
 use Rattle.task_set.proofs.demand_above.Statement.{statement}
 use Rattle.task_set.proofs.demand_above.Tie as tie
 
+-- what the tasks from the place k on ask for
+abbrev left : List ℕ → List ℕ → ℕ → ℕ → ℕ → ℕ
+left T C n k w = demandIn (drop k (timesOf T C n)) w
+
 abbrev Inv-loop : tie.InvT-loop
-Inv-loop r w part n sum₀ k₀ sum k = sum + demandIn (drop k (tasksOf part)) w ≡ demandIn (drop r (tasksOf part)) w
+Inv-loop separations costs n r w sum₀ k₀ sum k = sum + left separations costs n k w ≡ left separations costs n r w
 
 abbrev μ-loop : tie.MeasureT-loop
-μ-loop r w part n sum₀ k₀ sum k = n - k
+μ-loop separations costs n r w sum₀ k₀ sum k = n - k
 
 -- the whole is small, and so is the sum
-whole : (c : tie.Start Inv-loop μ-loop) → demandIn (drop (c .args .r) (tasksOf (c .args .t1))) (c .args .w) ≤ 2 ^ 44
-whole c = demand-small (c .args .t1) (c .pre .0) (c .args .r) (c .args .w) (c .pre .1)
+whole : (c : tie.Start Inv-loop μ-loop) → left (c .args .separations .now) (c .args .costs .now) (c .args .n) (c .args .r) (c .args .w) ≤ 2 ^ 44
+whole c = times-small (c .args .separations .now) (c .args .costs .now) (c .args .n) (c .pre .0) (c .args .r) (c .args .w) (c .pre .2)
 
 -- the turn's task
-ok : (c : tie.In-loop Inv-loop μ-loop) → FineTask (c .before .before .args .t1 .locks) (getD (c .before .before .args .t1 .tasks) (c .before .loop .k) blankTask)
+ok : (c : tie.In-loop Inv-loop μ-loop) → FineTime (getD (c .before .before .args .separations .now) (c .before .loop .k) 0) (getD (c .before .before .args .costs .now) (c .before .loop .k) 0)
 ok c = c .before .before .pre .0 .each (c .before .loop .k) (c .loop-test .taken)
 
 -- what the turn adds, and what is left
-turn : (c : tie.After-ceil-div Inv-loop μ-loop) →
-    let p = c .before .before .before .before .args .t1 in
-    let k = c .before .before .before .loop .k in
-    let w = c .before .before .before .before .args .w in
-    demandIn (drop k (tasksOf p)) w ≡ c .ceil-div .result * getD (p .tasks) k blankTask .cost + demandIn (drop (k + 1) (tasksOf p)) w
+turn : (c : tie.After-sum Inv-loop μ-loop) →
+    let a = c .before .before .before .before .before .args in
+    let k = c .before .before .before .before .loop .k in
+    left (a .separations .now) (a .costs .now) (a .n) k (a .w) ≡ c .before .releases .result * getD (a .costs .now) k 0 + left (a .separations .now) (a .costs .now) (a .n) (k + 1) (a .w)
 turn c =
-    let s = c .before .before .before .before in
-    rw (c .ceil-div .ensures, add-one) (demand-next (s .args .t1) (s .pre .0) (c .before .before .before .loop .k) (s .args .w) (c .before .before .loop-test .taken))
+    let a = c .before .before .before .before .before .args in
+    rw (c .before .releases .ensures, add-one) (times-next (a .separations .now) (a .costs .now) (a .n) (c .before .before .before .before .loop .k) (a .w) (c .before .before .before .loop-test .taken))
 
 loop-holds : tie.Need-loop-holds Inv-loop μ-loop
 loop-holds c = omega arith
 
-mul-t : tie.Need-mul-t Inv-loop μ-loop
-mul-t c = omega (arith, c .before .before .pre .0 .few)
+mul-releases : tie.Need-mul-releases Inv-loop μ-loop
+mul-releases c = omega (arith, c .before .before .pre .0 .few)
 
-element-copy-out-t : tie.Need-element-copy-out-t Inv-loop μ-loop
-element-copy-out-t c = omega (arith, c .before .before .pre .0 .few)
+element-copy-out-releases : tie.Need-element-copy-out-releases Inv-loop μ-loop
+element-copy-out-releases c = omega (arith, c .before .before .pre .0 .few)
 
-ceil-div-requires : tie.Need-ceil-div-requires Inv-loop μ-loop
-ceil-div-requires c κs = omega (arith, ok (c .before))
+releases-requires : tie.Need-releases-requires Inv-loop μ-loop
+releases-requires c κs = omega (arith, ok (c .before))
 
 mul-sum : tie.Need-mul-sum Inv-loop μ-loop
-mul-sum c = omega (arith, turn (c .before), whole (c .before .before .before .before .before))
+mul-sum c = omega (arith, c .before .before .before .before .pre .0 .few)
+
+element-copy-out-sum : tie.Need-element-copy-out-sum Inv-loop μ-loop
+element-copy-out-sum c = omega (arith, c .before .before .before .before .pre .0 .few)
+
+mul-sum-2 : tie.Need-mul-sum-2 Inv-loop μ-loop
+mul-sum-2 c = omega (arith, turn c, whole (c .before .before .before .before .before))
 
 add-sum : tie.Need-add-sum Inv-loop μ-loop
-add-sum c = omega (arith, turn (c .before), whole (c .before .before .before .before .before))
+add-sum c = omega (arith, turn c, whole (c .before .before .before .before .before))
 
 add-k : tie.Need-add-k Inv-loop μ-loop
 add-k c = omega arith
@@ -60,12 +72,13 @@ loop-less : tie.Need-loop-less Inv-loop μ-loop
 loop-less c = omega arith
 
 loop-again : tie.Need-loop-again Inv-loop μ-loop
-loop-again c = omega (arith, turn (c .before))
+loop-again c = omega (arith, turn c)
 
 returns : tie.Need-returns Inv-loop μ-loop
 returns c =
     let s = c .before .before in
-    omega (arith, whole s, demand-none (s .args .t1) (s .pre .0) (c .before .loop .k) (s .args .w) (c .loop-test .left))
+    let none = times-none (s .args .separations .now) (s .args .costs .now) (s .args .n) (c .before .loop .k) (s .args .w) (c .loop-test .left) in
+    record { value = omega (arith, none); small = omega (arith, none, whole s) }
 
 pub demand-above-spec : {M : Type 1} → statement M
 demand-above-spec =
@@ -74,10 +87,12 @@ demand-above-spec =
     Inv-loop
     μ-loop
     loop-holds
-    mul-t
-    element-copy-out-t
-    ceil-div-requires
+    mul-releases
+    element-copy-out-releases
+    releases-requires
     mul-sum
+    element-copy-out-sum
+    mul-sum-2
     add-sum
     add-k
     loop-less
