@@ -12,3 +12,5 @@ pub mod Fraction
 pub mod Pad
 pub mod Iterate
 pub mod Fill
+pub mod Numbers
+pub mod Members

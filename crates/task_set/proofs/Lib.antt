@@ -4,3 +4,4 @@ pub mod SettingsAgree
 pub mod Places
 pub mod Times
 pub mod ByColumn
+pub mod ByLock

@@ -1,23 +1,19 @@
 -- The tasks of the struct `Part` by their places, and what they ask for.
 -- Assumes nothing.
-use Prim.Native.Nat.{ℕ, zero, suc, _+_, _*_, _^_, min, _≤_, _<_}
-use native.Mathlib.Nat.{le-trans}
-use native.Mathlib.Numerals.{add-one}
+use Prim.Native.Nat.{ℕ, zero, suc, _+_, _*_, _≤_, _<_}
 use native.Mathlib.Omega.{arith}
-use native.Mathlib.Decide.{decLt}
 use mathlib.Core.Path.{_≡_, refl, sym, ap, _∙_}
-use mathlib.Core.List.{List, [], _∷_, map}
-use lib.ListN.{length, take, drop, getD, length-take, length-map, drop-of-length-le}
+use mathlib.Core.List.{List, [], _∷_, map, List·Memᴰ}
+use lib.ListN.{length, take, drop, getD, length-take, length-map, drop-of-length-le, List·getD-map}
 use lib.Seq.{drop-cons, getD-take, length-take-le}
 use Rattle.least.specs.Round.{ceilDiv}
 use Rattle.least.specs.Lists.{sum}
-use Rattle.least.proofs.Round.{ceil-le, product}
+use Rattle.least.proofs.Lists.{nth-get}
+use Rattle.least.proofs.Members.{place-of}
 use Rattle.task_set.specs.declared.Task.{Task}
 use Rattle.task_set.specs.declared.Part.{Part}
-use Rattle.task_set.specs.Tasks.{higher, demandIn, withLocks, tasksOf}
-use Rattle.task_set.specs.Fine.{blankTask, FineTask, FinePart}
-use Rattle.task_set.proofs.Demand.{Separated}
-use Rattle.task_set.proofs.Demand.Separated.{none, more}
+use Rattle.task_set.specs.Tasks.{heldFor, demandIn, withLocks, tasksOf}
+use Rattle.task_set.specs.Fine.{blankTask, FinePart}
 
 pub drop-map : {A B : Type 0} (f : A → B) (k : ℕ) (l : List A) → drop k (map f l) ≡ map f (drop k l)
 drop-map f zero l = refl
@@ -36,6 +32,24 @@ module _ (p : Part) (fine : FinePart p) where
   tasks-end k h =
       drop-of-length-le (map (withLocks (p .locks)) (take (p .count) (p .tasks))) {i = k}
       (omega (arith, length-map (take (p .count) (p .tasks)) (withLocks (p .locks)), length-take (p .count) (p .tasks)))
+
+  pub tasks-length : length (tasksOf p) ≡ p .count
+  unfolding tasksOf
+  tasks-length = length-map (take (p .count) (p .tasks)) (withLocks (p .locks)) ∙ length-take-le (p .count) (p .tasks) (omega (arith, fine .few, fine .room))
+
+  -- every task stands at a place
+  pub tasks-place : {t : Task} → List·Memᴰ t (tasksOf p) → (k : ℕ) × (k < p .count) × (t ≡ withLocks (p .locks) (getD (p .tasks) k blankTask))
+  unfolding tasksOf
+  tasks-place m =
+      let h = place-of (withLocks (p .locks) blankTask) (tasksOf p) m in
+      let l : h .0 < p .count = omega (arith, h .1, tasks-length) in
+      (h .0, l, h .2 ∙ List·getD-map (withLocks (p .locks)) (take (p .count) (p .tasks)) (h .0) blankTask ∙ ap (withLocks (p .locks)) (getD-take (p .count) (p .tasks) (h .0) blankTask l))
+
+  -- and uses the locks that there are as it stands there
+  pub held-at : (l : ℕ) → 1 ≤ l → l ≤ p .locks → (t : Task) → heldFor l (withLocks (p .locks) t) ≡ heldFor l t
+  unfolding heldFor
+  held-at zero a b t = absurd (omega arith)
+  held-at (suc j) a b t = nth-get 0 j (take (p .locks) (t .uses)) ∙ getD-take (p .locks) (t .uses) j 0 (omega arith) ∙ sym (nth-get 0 j (t .uses))
 
   pub demand-next : (k w : ℕ) → k < p .count → demandIn (drop k (tasksOf p)) w ≡ ceilDiv w (getD (p .tasks) k blankTask .separation) * getD (p .tasks) k blankTask .cost + demandIn (drop (suc k) (tasksOf p)) w
   unfolding demandIn sum

@@ -1,8 +1,11 @@
 // The tasks of a part and the locks that they share.
 ghost use mathlib.Core.Path.{_≡_};
-ghost use Prim.Native.Nat.{_^_, _≤_};
+ghost use Prim.Native.Nat.{suc, _^_, _≤_, _<_};
 ghost use Rattle.least.specs.Round.{ceilDiv};
+ghost use Rattle.task_set.specs.Tasks.{tasksOf};
+ghost use Rattle.task_set.specs.Fine.{FinePart};
 ghost use Rattle.task_set.specs.ByColumn.{timesOf, FineTimes, ColumnsAre, DemandIs};
+ghost use Rattle.task_set.specs.ByLock.{lockOf, earlier, withUser, LocksAre};
 
 // A task: least separation T, worst execution time C, deadline D; and for each lock of the part, in order of first mention, how long the
 // task holds it at most, 0 where it does not use it.
@@ -72,4 +75,86 @@ pub fn demand_above(separations: &[u64; 16], costs: &[u64; 16], n: usize, r: usi
         k += 1;
     }
     sum
+}
+
+// A lock of a part: its lowest ceiling, its longest use, and the smallest deadline among its users.
+pub struct Lock {
+    pub lowest: usize,
+    pub longest: u64,
+    pub deadline: u64,
+}
+
+// The locks of a part by columns.
+pub struct Locks {
+    pub lowest: [usize; 8],
+    pub longest: [u64; 8],
+    pub deadlines: [u64; 8],
+}
+
+// The smaller of two deadlines, where 0 stands for none.
+fn earlier_of(a: u64, b: u64) -> u64
+    ensures { λ r. ⌜ r ≡ earlier a b ⌝ }
+{
+    if a < 1 {
+        return b;
+    }
+    if b < 1 {
+        return a;
+    }
+    least::smaller(a, b)
+}
+
+// A lock after one more task: the task with this number holds it for c.
+fn with_user(lock: Lock, number: usize, c: u64, deadline: u64) -> Lock
+    ensures { λ r. ⌜ r ≡ withUser lock number c deadline ⌝ }
+{
+    if c < 1 {
+        return lock;
+    }
+    Lock {
+        lowest: number,
+        longest: least::larger(lock.longest, c),
+        deadline: earlier_of(lock.deadline, deadline),
+    }
+}
+
+// The lock at the place j, from 0: the lock with the number j + 1.
+pub fn lock_at(part: Part, j: usize) -> Lock
+    requires { ⌜ FinePart part × (j < part .locks) ⌝ }
+    ensures { λ r. ⌜ r ≡ lockOf (suc j) (tasksOf part) ⌝ }
+{
+    let mut lock = Lock {
+        lowest: 0,
+        longest: 0,
+        deadline: 0,
+    };
+    let mut k = 0;
+    while k < part.count {
+        let t = part.tasks[k];
+        lock = with_user(lock, k + 1, t.uses[j], t.deadline);
+        k += 1;
+    }
+    lock
+}
+
+pub fn locks_of(part: Part) -> Locks
+    requires { ⌜ FinePart part ⌝ }
+    ensures { λ r. ⌜ LocksAre part r ⌝ }
+{
+    let mut lowest = [0usize; 8];
+    let mut longest = [0u64; 8];
+    let mut deadlines = [0u64; 8];
+    let mut j = 0;
+    while j < part.locks {
+        let lock = lock_at(part, j);
+        lowest[j] = lock.lowest;
+        longest[j] = lock.longest;
+        deadlines[j] = lock.deadline;
+        j += 1;
+    }
+    Locks {
+        lowest,
+        longest,
+        deadlines,
+    }
 }

@@ -1,13 +1,11 @@
 -- `task_set::demand_above` meets its contract. The invariant: what is summed and what the tasks from the place k on ask for make up the whole.
 -- Assumes nothing.
-use Prim.Native.Nat.{ℕ, suc, _+_, _-_, _*_, _^_, _≤_, _<_}
+use Prim.Native.Nat.{ℕ, _+_, _-_, _*_, _^_, _≤_}
 use mathlib.Core.Path.{_≡_}
 use mathlib.Core.List.{List}
 use lib.ListN.{drop, getD}
 use native.Mathlib.Numerals.{add-one}
 use native.Mathlib.Omega.{arith}
-use borrow.Author.Needs.{needs}
-use Rattle.task_set.specs.declared.Task.{Task}
 use Rattle.task_set.specs.Tasks.{demandIn}
 use Rattle.task_set.specs.ByColumn.{timesOf, FineTime}
 use Rattle.task_set.proofs.Times.{times-none, times-next, times-small}
