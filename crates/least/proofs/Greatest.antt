@@ -1,12 +1,13 @@
 -- Laws of the greatest of the values that a function has on the elements of a list: it is at least each, and one of them or 0.
 -- Assumes nothing.
-use Prim.Native.Nat.{ℕ, max, _≤_}
+use Prim.Native.Nat.{ℕ, zero, suc, max, _≤_}
 use native.Mathlib.Nat.{le-trans}
 use native.Mathlib.Omega.{arith}
 use native.Mathlib.Decide.{decLe}
 use mathlib.Core.Path.{_≡_, refl, ap}
 use mathlib.Core.List.{List, [], _∷_, map, List·Memᴰ, List·Memᴰ·head, List·Memᴰ·tail}
 use mathlib.Core.Logic.{_⊎_, inl, inr}
+use lib.ListN.{take, getD}
 use Rattle.least.specs.Lists.{greatest}
 
 module _ {A : Type 0} (f : A → ℕ) where
@@ -36,6 +37,14 @@ module _ {A : Type 0} (f : A → ℕ) where
       go d (yes l) = inr (x, List·Memᴰ·head refl, omega arith)
       go (inl z) (no l) = absurd (omega arith)
       go (inr r) (no l) = inr (r .0, List·Memᴰ·tail (r .1), omega (arith, r .2))
+
+-- one element more, or none where the list has ended
+pub greatest-take : {A : Type 0} (f : A → ℕ) (d : A) → f d ≡ 0 → (i : ℕ) (xs : List A) → greatest (map f (take (suc i) xs)) ≡ max (greatest (map f (take i xs))) (f (getD xs i d))
+unfolding greatest
+greatest-take f d e zero [] = omega arith
+greatest-take f d e (suc i) [] = omega arith
+greatest-take f d e zero (x ∷ xs) = omega arith
+greatest-take f d e (suc i) (x ∷ xs) = omega (arith, greatest-take f d e i xs)
 
 pub greatest-mono : {A : Type 0} (f g : A → ℕ) (xs : List A) → ((x : A) → List·Memᴰ x xs → f x ≤ g x) → greatest (map f xs) ≤ greatest (map g xs)
 greatest-mono f g xs h = greatest-le f (greatest (map g xs)) xs (λ x m. le-trans (h x m) (greatest-each g xs x m))

@@ -5,3 +5,4 @@ pub mod Places
 pub mod Times
 pub mod ByColumn
 pub mod ByLock
+pub mod Below

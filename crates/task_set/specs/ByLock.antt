@@ -3,18 +3,20 @@
 --   earlier a b        == the smaller of two deadlines, where 0 stands for none
 --   withUser lock number c deadline == the lock, once the task with this number is known to hold it for c; c = 0 where it does not use it
 --   LocksAre p locks   == the first places hold the numbers of the part's locks
+--   LongestBelow p table == at 8 i + j, i < 16, j < 8, the longest use of lock j + 1 by a task below the place i
 -- Assumes nothing.
-use Prim.Native.Nat.{ℕ, suc, min, max, _<_}
+use Prim.Native.Nat.{ℕ, suc, _+_, _*_, min, max, _<_}
 use mathlib.Core.Path.{_≡_}
 use mathlib.Core.Bool.{cond}
-use mathlib.Core.List.{List}
+use mathlib.Core.List.{List, map}
 use lib.Dec.{leb}
-use lib.ListN.{getD}
+use lib.ListN.{take, getD}
+use Rattle.least.specs.Lists.{greatest}
 use Rattle.task_set.specs.declared.Task.{Task}
 use Rattle.task_set.specs.declared.Part.{Part}
 use Rattle.task_set.specs.declared.Lock.{Lock}
 use Rattle.task_set.specs.declared.Locks.{Locks}
-use Rattle.task_set.specs.Tasks.{lowestCeiling, greatestHeld, smallestDeadline, tasksOf}
+use Rattle.task_set.specs.Tasks.{heldFor, lowestCeiling, greatestHeld, smallestDeadline, tasksOf}
 
 abbrev pub lockOf : ℕ → List Task → Lock
 lockOf l ts = record { lowest = lowestCeiling l ts; longest = greatestHeld l ts; deadline = smallestDeadline l ts }
@@ -32,3 +34,6 @@ pub record LocksAre (p : Part) (locks : Locks) : Type 0 where
   pub lowest : (j : ℕ) → j < p .locks → getD (locks .lowest) j 0 ≡ lowestCeiling (suc j) (tasksOf p)
   pub longest : (j : ℕ) → j < p .locks → getD (locks .longest) j 0 ≡ greatestHeld (suc j) (tasksOf p)
   pub deadlines : (j : ℕ) → j < p .locks → getD (locks .deadlines) j 0 ≡ smallestDeadline (suc j) (tasksOf p)
+
+abbrev pub LongestBelow : Part → List ℕ → Type 0
+LongestBelow p table = (i j : ℕ) → i < 16 → j < 8 → getD table (8 * i + j) 0 ≡ greatest (map (heldFor (suc j)) (take i (p .tasks)))

@@ -5,7 +5,7 @@ ghost use Rattle.least.specs.Round.{ceilDiv};
 ghost use Rattle.task_set.specs.Tasks.{tasksOf};
 ghost use Rattle.task_set.specs.Fine.{FinePart};
 ghost use Rattle.task_set.specs.ByColumn.{timesOf, FineTimes, ColumnsAre, DemandIs};
-ghost use Rattle.task_set.specs.ByLock.{lockOf, earlier, withUser, LocksAre};
+ghost use Rattle.task_set.specs.ByLock.{lockOf, earlier, withUser, LocksAre, LongestBelow};
 
 // A task: least separation T, worst execution time C, deadline D; and for each lock of the part, in order of first mention, how long the
 // task holds it at most, 0 where it does not use it.
@@ -157,4 +157,18 @@ pub fn locks_of(part: Part) -> Locks
         longest,
         deadlines,
     }
+}
+
+// For each place i and each lock at the place j, at 8 i + j: the longest use of the lock by a task below the place i.
+pub fn longest_below(part: Part) -> [u64; 128]
+    ensures { λ r. ⌜ LongestBelow part r ⌝ }
+{
+    let mut table = [0u64; 128];
+    let mut k = 8;
+    while k < 128 {
+        let t = part.tasks[k / 8 - 1];
+        table[k] = least::larger(table[k - 8], t.uses[k % 8]);
+        k += 1;
+    }
+    table
 }
