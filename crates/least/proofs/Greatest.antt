@@ -1,6 +1,6 @@
 -- Laws of the greatest of the values that a function has on the elements of a list: it is at least each, and one of them or 0.
 -- Assumes nothing.
-use Prim.Native.Nat.{ℕ, zero, suc, max, _≤_}
+use Prim.Native.Nat.{ℕ, zero, suc, _-_, max, _≤_, _<_}
 use native.Mathlib.Nat.{le-trans}
 use native.Mathlib.Omega.{arith}
 use native.Mathlib.Decide.{decLe}
@@ -8,7 +8,7 @@ use mathlib.Core.Path.{_≡_, refl, ap}
 use mathlib.Core.List.{List, [], _∷_, map, List·Memᴰ, List·Memᴰ·head, List·Memᴰ·tail}
 use mathlib.Core.Logic.{_⊎_, inl, inr}
 use lib.ListN.{take, getD}
-use Rattle.least.specs.Lists.{greatest}
+use Rattle.least.specs.Lists.{greatest, countFrom}
 
 module _ {A : Type 0} (f : A → ℕ) where
   pub greatest-each : (xs : List A) (x : A) → List·Memᴰ x xs → f x ≤ greatest (map f xs)
@@ -37,6 +37,16 @@ module _ {A : Type 0} (f : A → ℕ) where
       go d (yes l) = inr (x, List·Memᴰ·head refl, omega arith)
       go (inl z) (no l) = absurd (omega arith)
       go (inr r) (no l) = inr (r .0, List·Memᴰ·tail (r .1), omega (arith, r .2))
+
+-- the numbers from j up to m, m left out
+module _ (f : ℕ → ℕ) (j m : ℕ) where
+  pub greatest-from : j < m → greatest (map f (countFrom j (m - j))) ≡ max (f j) (greatest (map f (countFrom (suc j) (m - suc j))))
+  unfolding greatest countFrom
+  greatest-from h = let e : m - j ≡ suc (m - suc j) = omega arith in rw e refl
+
+  pub greatest-past : m ≤ j → greatest (map f (countFrom j (m - j))) ≡ 0
+  unfolding greatest countFrom
+  greatest-past h = let e : m - j ≡ 0 = omega arith in rw e refl
 
 -- one element more, or none where the list has ended
 pub greatest-take : {A : Type 0} (f : A → ℕ) (d : A) → f d ≡ 0 → (i : ℕ) (xs : List A) → greatest (map f (take (suc i) xs)) ≡ max (greatest (map f (take i xs))) (f (getD xs i d))

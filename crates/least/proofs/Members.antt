@@ -1,16 +1,22 @@
--- Members of a list by their places, and of a list that is turned round.
+-- Members of a list by their places, of a part of a list, and of a list that is turned round.
 -- Assumes nothing.
 use Prim.Native.Nat.{ℕ, suc, _<_}
 use native.Mathlib.Omega.{arith}
 use mathlib.Core.Path.{_≡_, subst}
 use mathlib.Core.Logic.{_↔_}
 use mathlib.Core.List.{List, [], _∷_, reverse, reverse-cons, reverse-reverse, List·Memᴰ, List·Memᴰ·head, List·Memᴰ·tail, Memᴰ·append-left, Memᴰ·append-right}
-use lib.ListN.{length, getD}
+use lib.ListN.{length, take, drop, getD, take-append-drop}
 
 module _ {A : Type 0} where
   pub place-of : (d : A) {x : A} (xs : List A) → List·Memᴰ x xs → (k : ℕ) × (k < length xs) × (x ≡ getD xs k d)
   place-of d (y ∷ ys) (List·Memᴰ·head q) = (0, omega arith, q)
   place-of d (y ∷ ys) (List·Memᴰ·tail m) = let h = place-of d ys m in (suc (h .0), omega (arith, h .1), h .2)
+
+  pub take-member : (k : ℕ) {x : A} (xs : List A) → List·Memᴰ x (take k xs) → List·Memᴰ x xs
+  take-member k {x} xs m = subst (List·Memᴰ x) (take-append-drop k xs) (Memᴰ·append-left (drop k xs) m)
+
+  pub drop-member : (k : ℕ) {x : A} (xs : List A) → List·Memᴰ x (drop k xs) → List·Memᴰ x xs
+  drop-member k {x} xs m = subst (List·Memᴰ x) (take-append-drop k xs) (Memᴰ·append-right (take k xs) m)
 
   turned : {x : A} (xs : List A) → List·Memᴰ x xs → List·Memᴰ x (reverse xs)
   turned {x} (y ∷ ys) (List·Memᴰ·head q) = rw (reverse-cons y ys) (Memᴰ·append-right (reverse ys) (List·Memᴰ·head q))

@@ -5,16 +5,17 @@ use Prim.Native.Nat.{ℕ, suc, _+_, _^_, min, max, _≤_, _<_}
 use native.Mathlib.Numerals.{add-one}
 use native.Mathlib.Omega.{arith}
 use native.Mathlib.Decide.{decLe}
-use mathlib.Core.Path.{_≡_, refl, sym, ap, _∙_, subst}
+use mathlib.Core.Path.{_≡_, refl, sym, ap, _∙_}
 use mathlib.Core.Bool.{true, cond}
 use mathlib.Core.Logic.{⊎-elim}
-use mathlib.Core.List.{List, [], _∷_, map, List·Memᴰ, List·Memᴰ·head, List·Memᴰ·tail, Memᴰ·append-right, Memᴰ·map}
+use mathlib.Core.List.{List, [], _∷_, map, List·Memᴰ, List·Memᴰ·head, List·Memᴰ·tail, Memᴰ·map}
 use lib.Dec.{leb}
-use lib.ListN.{take, drop, getD, take-append-drop}
+use lib.ListN.{drop, getD}
 use borrow.Author.Tests.{le-leb, lt-leb}
 use Rattle.least.specs.Lists.{greatest, smallest, those, numbersFrom}
 use Rattle.least.proofs.Lists.{smallest-member, those-pass, those-fail, those-iff, map-iff, nth-get}
 use Rattle.least.proofs.Greatest.{greatest-le, greatest-reached}
+use Rattle.least.proofs.Members.{drop-member}
 use Rattle.least.proofs.Numbers.{numbers-pass, numbers-fail, numbers-most, numbers-some}
 use Rattle.task_set.specs.declared.Task.{Task}
 use Rattle.task_set.specs.declared.Part.{Part}
@@ -69,9 +70,6 @@ module _ (lock : Lock) (number c deadline : ℕ) where
 
 same-lock : (a b : Lock) → a .lowest ≡ b .lowest → a .longest ≡ b .longest → a .deadline ≡ b .deadline → a ≡ b
 same-lock a b x y z = λ i. record { lowest = x i; longest = y i; deadline = z i }
-
-drop-member : {A : Type 0} {x : A} (k : ℕ) (xs : List A) → List·Memᴰ x (drop k xs) → List·Memᴰ x xs
-drop-member {A} {x} k xs m = subst (List·Memᴰ x) (take-append-drop k xs) (Memᴰ·append-right (take k xs) m)
 
 -- every task has a deadline
 abbrev Due : List Task → Type 0

@@ -6,3 +6,4 @@ pub mod Times
 pub mod ByColumn
 pub mod ByLock
 pub mod Below
+pub mod BlockingAt

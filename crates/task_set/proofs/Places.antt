@@ -5,7 +5,7 @@ use native.Mathlib.Omega.{arith}
 use mathlib.Core.Path.{_≡_, refl, sym, ap, _∙_}
 use mathlib.Core.List.{List, [], _∷_, map, List·Memᴰ}
 use lib.ListN.{length, take, drop, getD, length-take, length-map, drop-of-length-le, List·getD-map}
-use lib.Seq.{drop-cons, getD-take, length-take-le}
+use lib.Seq.{drop-cons, getD-take, length-take-le, take-take}
 use Rattle.least.specs.Round.{ceilDiv}
 use Rattle.least.specs.Lists.{sum}
 use Rattle.least.proofs.Lists.{nth-get}
@@ -19,6 +19,11 @@ pub drop-map : {A B : Type 0} (f : A → B) (k : ℕ) (l : List A) → drop k (m
 drop-map f zero l = refl
 drop-map f (suc k) [] = refl
 drop-map f (suc k) (x ∷ l) = drop-map f k l
+
+take-map : {A B : Type 0} (f : A → B) (k : ℕ) (l : List A) → take k (map f l) ≡ map f (take k l)
+take-map f zero l = refl
+take-map f (suc k) [] = refl
+take-map f (suc k) (x ∷ l) = ap (λ (r : List _). f x ∷ r) (take-map f k l)
 
 module _ (p : Part) (fine : FinePart p) where
   pub tasks-at : (k : ℕ) → k < p .count → drop k (tasksOf p) ≡ withLocks (p .locks) (getD (p .tasks) k blankTask) ∷ drop (suc k) (tasksOf p)
@@ -36,6 +41,10 @@ module _ (p : Part) (fine : FinePart p) where
   pub tasks-length : length (tasksOf p) ≡ p .count
   unfolding tasksOf
   tasks-length = length-map (take (p .count) (p .tasks)) (withLocks (p .locks)) ∙ length-take-le (p .count) (p .tasks) (omega (arith, fine .few, fine .room))
+
+  pub tasks-take : (k : ℕ) → k ≤ p .count → take k (tasksOf p) ≡ map (withLocks (p .locks)) (take k (p .tasks))
+  unfolding tasksOf
+  tasks-take k h = take-map (withLocks (p .locks)) k (take (p .count) (p .tasks)) ∙ ap (map (withLocks (p .locks))) (take-take k (p .count) (p .tasks) h)
 
   -- every task stands at a place
   pub tasks-place : {t : Task} → List·Memᴰ t (tasksOf p) → (k : ℕ) × (k < p .count) × (t ≡ withLocks (p .locks) (getD (p .tasks) k blankTask))

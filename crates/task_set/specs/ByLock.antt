@@ -1,22 +1,27 @@
--- The locks of a part, one array for each of their numbers.
+-- The locks of a part by places, from 0: arrays with their numbers, and the blocking of a task from such arrays.
 --   lockOf l ts        == of lock l: its lowest ceiling, the greatest c and the smallest deadline of its users
 --   earlier a b        == the smaller of two deadlines, where 0 stands for none
 --   withUser lock number c deadline == the lock, once the task with this number is known to hold it for c; c = 0 where it does not use it
 --   LocksAre p locks   == the first places hold the numbers of the part's locks
 --   LongestBelow p table == at 8 i + j, i < 16, j < 8, the longest use of lock j + 1 by a task below the place i
+--   blockedFor ceiling c i == c, where a lock with this ceiling blocks the task at the place i, else 0
+--   blockingBy below ceilings m i == the blocking of the task at the place i under these ceilings of m locks, from the table `below`
+--   settingOf ceilings == the setting with these ceilings: lock l, from 1 on, has the place l - 1
+--   lowerThan i ts     == the tasks below the place i, nearest first
 -- Assumes nothing.
-use Prim.Native.Nat.{ℕ, suc, _+_, _*_, min, max, _<_}
+use Prim.Native.Nat.{ℕ, suc, _+_, _-_, _*_, min, max, _<_}
 use mathlib.Core.Path.{_≡_}
 use mathlib.Core.Bool.{cond}
-use mathlib.Core.List.{List, map}
+use mathlib.Core.List.{List, map, reverse}
 use lib.Dec.{leb}
 use lib.ListN.{take, getD}
-use Rattle.least.specs.Lists.{greatest}
+use Rattle.least.specs.Lists.{greatest, countFrom}
 use Rattle.task_set.specs.declared.Task.{Task}
 use Rattle.task_set.specs.declared.Part.{Part}
 use Rattle.task_set.specs.declared.Lock.{Lock}
 use Rattle.task_set.specs.declared.Locks.{Locks}
 use Rattle.task_set.specs.Tasks.{heldFor, lowestCeiling, greatestHeld, smallestDeadline, tasksOf}
+use Rattle.task_set.specs.Blocking.{Setting}
 
 abbrev pub lockOf : ℕ → List Task → Lock
 lockOf l ts = record { lowest = lowestCeiling l ts; longest = greatestHeld l ts; deadline = smallestDeadline l ts }
@@ -37,3 +42,16 @@ pub record LocksAre (p : Part) (locks : Locks) : Type 0 where
 
 abbrev pub LongestBelow : Part → List ℕ → Type 0
 LongestBelow p table = (i j : ℕ) → i < 16 → j < 8 → getD table (8 * i + j) 0 ≡ greatest (map (heldFor (suc j)) (take i (p .tasks)))
+
+-- the task at the place i has the number i + 1
+abbrev pub blockedFor : ℕ → ℕ → ℕ → ℕ
+blockedFor ceiling c i = cond (leb (suc i) ceiling) c 0
+
+unfoldable pub blockingBy : List ℕ → List ℕ → ℕ → ℕ → ℕ
+blockingBy below ceilings m i = greatest (map (λ j. blockedFor (getD ceilings j 0) (getD below (8 * i + j) 0) i) (countFrom 0 m))
+
+abbrev pub settingOf : List ℕ → Setting
+settingOf ceilings l = getD ceilings (l - 1) 0
+
+abbrev pub lowerThan : ℕ → List Task → List Task
+lowerThan i ts = reverse (take i ts)

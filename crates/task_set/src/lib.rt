@@ -5,7 +5,7 @@ ghost use Rattle.least.specs.Round.{ceilDiv};
 ghost use Rattle.task_set.specs.Tasks.{tasksOf};
 ghost use Rattle.task_set.specs.Fine.{FinePart};
 ghost use Rattle.task_set.specs.ByColumn.{timesOf, FineTimes, ColumnsAre, DemandIs};
-ghost use Rattle.task_set.specs.ByLock.{lockOf, earlier, withUser, LocksAre, LongestBelow};
+ghost use Rattle.task_set.specs.ByLock.{lockOf, earlier, withUser, LocksAre, LongestBelow, blockedFor, blockingBy};
 
 // A task: least separation T, worst execution time C, deadline D; and for each lock of the part, in order of first mention, how long the
 // task holds it at most, 0 where it does not use it.
@@ -171,4 +171,25 @@ pub fn longest_below(part: Part) -> [u64; 128]
         k += 1;
     }
     table
+}
+
+// What a lock with this ceiling blocks the task at the place i for, where a lower task holds it for c.
+fn blocked_for(ceiling: usize, c: u64, i: usize) -> u64
+    ensures { λ r. ⌜ r ≡ blockedFor ceiling c i ⌝ }
+{
+    if i < ceiling { c } else { 0 }
+}
+
+// The blocking of the task at the place i under these ceilings of m locks, from the table of `longest_below`.
+pub fn blocking_at(below: &[u64; 128], ceilings: &[usize; 8], m: usize, i: usize) -> u64
+    requires { ⌜ (m ≤ 8) × (i < 16) ⌝ }
+    ensures { λ r. ⌜ r ≡ blockingBy (now (below .entry)) (now (ceilings .entry)) m i ⌝ }
+{
+    let mut greatest: u64 = 0;
+    let mut j = 0;
+    while j < m {
+        greatest = least::larger(greatest, blocked_for(ceilings[j], below[8 * i + j], i));
+        j += 1;
+    }
+    greatest
 }
