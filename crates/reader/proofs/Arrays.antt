@@ -1,10 +1,10 @@
 -- The array of tasks that the reader fills: one more task and one more lock are one store each, and of the part that is closed it holds the tasks.
 -- Assumes nothing.
-use Prim.Native.Nat.{ℕ, _-_, _≤_, _<_}
+use Prim.Native.Nat.{ℕ, zero, suc, _-_, _≤_, _<_}
 use native.Mathlib.Omega.{arith}
 use mathlib.Core.Path.{_≡_, sym, ap, ap₂, _∙_}
 use mathlib.Core.List.{List, [], _∷_, _++_, map, map-append, map-map, dropLast}
-use lib.ListN.{length, set, take, length-map, length-append}
+use lib.ListN.{length, set, take, getD, length-map, length-append}
 use lib.Seq.{set-at}
 use Rattle.least.specs.Lists.{pad, onLast}
 use Rattle.least.proofs.Lists.{map-same}
@@ -30,6 +30,14 @@ module _ {A : Type 0} (k : ℕ) (z : A) (xs : List A) (n : ℕ) (count : length 
 
   pub take-at : n ≤ k → take n (pad k z xs) ≡ xs
   take-at h = rw (← count) (take-pad k z xs (omega arith))
+
+-- what holds at every place holds there behind a store of something of which it holds
+pub set-each : {A : Type 0} (P : A → Type 0) (d : A) (xs : List A) (j : ℕ) (x : A) → ((k : ℕ) → P (getD xs k d)) → P x → (k : ℕ) → P (getD (set xs j x) k d)
+set-each P d [] j x all h k = all k
+set-each P d (y ∷ ys) zero x all h zero = h
+set-each P d (y ∷ ys) zero x all h (suc k) = all (suc k)
+set-each P d (y ∷ ys) (suc j) x all h zero = all zero
+set-each P d (y ∷ ys) (suc j) x all h (suc k) = set-each P d ys j x (λ i. all (suc i)) h k
 
 -- the array of a part's tasks
 abbrev pub arrayOf : FilePart → List Task

@@ -6,7 +6,7 @@ use native.Mathlib.Omega.{arith}
 use mathlib.Core.Path.{_≡_, refl, sym, ap, ap₂, _∙_}
 use mathlib.Core.Bool.{true, false, false≢true}
 use mathlib.Core.List.{List, [], _∷_, _++_, map, map-append, dropLast}
-use lib.ListN.{length, take, set, length-set, length-append}
+use lib.ListN.{length, take, set, getD, length-set, length-append}
 use lib.Seq.{take-suc-set, take-set-le}
 use Rattle.least.specs.Lists.{pad, lastOr, onLast}
 use Rattle.least.proofs.Pad.{length-pad}
@@ -23,12 +23,14 @@ use Rattle.plan_file.specs.Numbers.{tasksIn}
 use Rattle.plan_file.specs.Reading.{isEnd, locksOf}
 use Rattle.plan_file.specs.Entries.{noSpan, noTaskRead, noneSeen, namesOf, placeOf, seenPart, seenTask, seenLock, seenEnd}
 use Rattle.plan_file.proofs.SeenLast.{last-split, drop-last-snoc, drop-last-on-last, length-on-last}
+use Rattle.plan_file.proofs.SeenNames.{fine-none}
+use Rattle.plan_file.proofs.SeenPad.{get-pad}
 use Rattle.plan_file.proofs.SeenTasks.{taskWith}
 use Rattle.plan_file.proofs.SeenPart.{storedUse, task-count, lock-count, task-after-lock}
 use Rattle.plan_file.proofs.SeenAbove.{SeenIs, part-count, taskOf, lockOf, this-part-part, this-part-task, this-part-lock, seen-is-start, seen-is-part, seen-is-task, seen-is-lock, seen-is-end}
 use Rattle.reader.specs.declared.PartRead.{PartRead}
-use Rattle.reader.specs.Reader.{ReadPart, numbersOf, partOf, closedPart, noPartRead}
-use Rattle.reader.proofs.Arrays.{arrayOf, array-task, array-lock, tasks-closed}
+use Rattle.reader.specs.Reader.{ReadPart, numbersOf, partOf, FineCounts, closedPart, noPartRead}
+use Rattle.reader.proofs.Arrays.{set-each, arrayOf, array-task, array-lock, tasks-closed}
 
 -- the last part
 pub record Holds (s : List ℕ) (name : Span) (period : ℕ) (tasks : List Task) (p : FilePart) : Type 0 where
@@ -42,7 +44,12 @@ pub record Stands (s : List ℕ) (seen : Seen) (opened : ℕ) (name : Span) (per
   pub open-is : opened ≡ length (a .parts) - 1
   pub room : length all ≡ 16
   pub closed : map (partOf s) (take opened all) ≡ map numbersOf (dropLast (a .parts))
+  pub counts : (k : ℕ) → FineCounts (getD all k noPartRead)
   pub complete : isEnd (a .directly) ≡ true → map (partOf s) (take (length (a .parts)) all) ≡ map numbersOf (a .parts)
+
+none-counted : FineCounts noPartRead
+unfolding closedPart
+none-counted = record { few = omega arith; room = length-pad 16 noTaskRead []; few-locks = omega arith; locks-are = refl; names = fine-none }
 
 pub stands-start : (s : List ℕ) → Stands s noneSeen 0 noSpan 0 (pad 16 noTaskRead []) (pad 16 noPartRead []) nothingAbove
 unfolding lastOr isEnd bytesOf
@@ -52,6 +59,7 @@ stands-start s = record {
   open-is = refl;
   room = length-pad 16 noPartRead [];
   closed = refl;
+  counts = λ k. rw (get-pad 16 noPartRead [] k (omega arith)) none-counted;
   complete = λ e. absurd (false≢true e);
 }
 
@@ -82,6 +90,16 @@ module _ (s : List ℕ) (seen : Seen) (opened : ℕ) (name : Span) (period : ℕ
   last-read =
       λ i. record { name = stands .last .called i; period = stands .last .period-is i; locks = stands .seen-is .part .lock-names i; tasks = tasks-read i }
 
+  last-counted : FineCounts lastRead
+  unfolding closedPart
+  last-counted =
+      let is = stands .seen-is .part in
+      record { few = is .fine-tasks .few; room = ap length (stands .last .tasks-are) ∙ length-pad 16 noTaskRead _; few-locks = is .few-locks; locks-are = refl; names = is .fine-locks }
+
+  -- with the last part stored, every place is right
+  all-counted : (k : ℕ) → FineCounts (getD (set all opened lastRead) k noPartRead)
+  all-counted = set-each FineCounts noPartRead all opened lastRead (stands .counts) last-counted
+
   some-read : 1 ≤ length (a .parts) → map (partOf s) (take (length (a .parts)) (set all opened lastRead)) ≡ map numbersOf (a .parts)
   some-read h =
       let n : length (a .parts) ≡ suc opened = omega (arith, stands .open-is) in
@@ -106,6 +124,7 @@ module _ (s : List ℕ) (seen : Seen) (opened : ℕ) (name : Span) (period : ℕ
     open-is = rw length-append (omega (arith, parts-are));
     room = length-set all opened lastRead ∙ stands .room;
     closed = rw (drop-last-snoc (a .parts), ← parts-are) all-read;
+    counts = all-counted;
     complete = λ e. absurd (false≢true e);
   }
 
@@ -135,6 +154,7 @@ module _ (s : List ℕ) (seen : Seen) (opened : ℕ) (name : Span) (period : ℕ
         open-is = open-stays f;
         room = stands .room;
         closed = closed-stays f;
+        counts = stands .counts;
         complete = λ e. absurd (false≢true e);
       }
 
@@ -164,6 +184,7 @@ module _ (s : List ℕ) (seen : Seen) (opened : ℕ) (name : Span) (period : ℕ
           open-is = open-stays f;
           room = stands .room;
           closed = closed-stays f;
+          counts = stands .counts;
           complete = λ e. absurd (false≢true e);
         }
 
@@ -175,5 +196,6 @@ module _ (s : List ℕ) (seen : Seen) (opened : ℕ) (name : Span) (period : ℕ
     open-is = stands .open-is;
     room = length-set all opened lastRead ∙ stands .room;
     closed = rw (take-set-le opened all opened lastRead (omega arith)) (stands .closed);
+    counts = all-counted;
     complete = λ e. all-read;
   }

@@ -3,13 +3,14 @@
 --   numbersOf p == that of a part of the file;  numbered a == of every part of a readable file
 --   partOf s r  == that of the struct `PartRead`, whose names are stretches of the file s
 --   fileOf s f  == what the struct `PlanFile` says: the parts that it holds, or the refusal
---   ReadIs s f  == f is what the file s says: its parts, or the refusal of the first question among 1 to 9 with a no
+--   FineCounts r == the counts of the struct `PartRead` are within the places that there are, and count the same locks
+--   ReadIs s f  == f is what the file s says: its parts, or the refusal of the first question among 1 to 9 with a no; and its counts are fine
 -- The one place where counts and unused places of these structs occur.
 -- Assumes nothing.
-use Prim.Native.Nat.{ℕ, _≤_}
+use Prim.Native.Nat.{ℕ, _≤_, _<_}
 use mathlib.Core.Path.{_≡_}
 use mathlib.Core.List.{List, [], map}
-use lib.ListN.{length, take, set}
+use lib.ListN.{length, take, set, getD}
 use Rattle.least.specs.Lists.{pad}
 use Rattle.refusal.specs.declared.Refusal.{Refusal}
 use Rattle.refusal.specs.declared.Outcome.{Outcome}
@@ -24,7 +25,7 @@ use Rattle.plan_file.specs.declared.Names.{Names}
 use Rattle.plan_file.specs.Above.{FilePart, lockNames}
 use Rattle.plan_file.specs.Reading.{readFile}
 use Rattle.plan_file.specs.Numbers.{tasksIn}
-use Rattle.plan_file.specs.Entries.{noSpan, noNames, noTaskRead, namesOf}
+use Rattle.plan_file.specs.Entries.{FineNames, noSpan, noNames, noTaskRead, namesOf}
 use Rattle.reader.specs.declared.PartRead.{PartRead}
 use Rattle.reader.specs.declared.PlanFile.{PlanFile}
 
@@ -51,18 +52,27 @@ answerOf (Refused r) ps = refused r
 unfoldable pub fileOf : List ℕ → PlanFile → Answer (List ReadPart)
 fileOf s f = answerOf (f .outcome) (map (partOf s) (take (f .count) (f .parts)))
 
-pub record ReadIs (s : List ℕ) (f : PlanFile) : Type 0 where
-  pub value : fileOf s f ≡ numbered (readFile s)
-  pub few : f .count ≤ 16
-  pub room : length (f .parts) ≡ 16
-
--- what the code makes: a part with all that was read of it, a refusal, a task that holds the lock at place j
+-- a part with all that was read of it, and one of which nothing was read
 unfoldable pub closedPart : Span → ℕ → List Task → ℕ → Names → PartRead
 closedPart name P ts n locks = record { name = name; part = record { period = P; tasks = ts; count = n; locks = locks .count }; locks = locks }
 
 abbrev pub noPartRead : PartRead
 noPartRead = closedPart noSpan 0 (pad 16 noTaskRead []) 0 noNames
 
+pub record FineCounts (r : PartRead) : Type 0 where
+  pub few : r .part .count ≤ 16
+  pub room : length (r .part .tasks) ≡ 16
+  pub few-locks : r .part .locks ≤ 8
+  pub locks-are : r .part .locks ≡ r .locks .count
+  pub names : FineNames (r .locks)
+
+pub record ReadIs (s : List ℕ) (f : PlanFile) : Type 0 where
+  pub value : fileOf s f ≡ numbered (readFile s)
+  pub few : f .count ≤ 16
+  pub room : length (f .parts) ≡ 16
+  pub counts : (k : ℕ) → k < f .count → FineCounts (getD (f .parts) k noPartRead)
+
+-- what the code makes: a refusal, a task that holds the lock at place j
 unfoldable pub refusedFile : Refusal → PlanFile
 refusedFile r = record { outcome = Refused r; parts = pad 16 noPartRead []; count = 0 }
 

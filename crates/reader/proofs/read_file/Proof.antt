@@ -32,7 +32,7 @@ abbrev μ-loop : tie.MeasureT-loop
 -- a refusal that the file has
 refused-is : (s : List ℕ) (x : Refusal) (f : PlanFile) → f ≡ refusedFile x → refused x ≡ numbered (readFile s) → ReadIs s f
 unfolding refusedFile
-refused-is s x f e h = record { value = rw e (refused-file s x ∙ h); few = rw e (omega arith); room = rw e (length-pad 16 noPartRead []) }
+refused-is s x f e h = record { value = rw e (refused-file s x ∙ h); few = rw e (omega arith); room = rw e (length-pad 16 noPartRead []); counts = rw e (λ k h. absurd (omega arith)) }
 
 abbrev file : tie.At-loop Inv-loop μ-loop → List ℕ
 file l = l .before .before .before .before .before .before .before .args .s .now
@@ -101,6 +101,7 @@ returns-2 c =
       value = reading-done (file l) (l .loop .c) (l .loop .seen) (l .loop .«open») (l .loop .name) (l .loop .period) (l .loop .tasks) (l .loop .all) (l .loop .inv) (rw (c .before .before .enum-told .given .1) at (c .before .before .before .before .next .ensures)) (c .if2 .taken);
       few = reading-fine (file l) (l .loop .c) (l .loop .seen) (l .loop .«open») (l .loop .name) (l .loop .period) (l .loop .tasks) (l .loop .all) (l .loop .inv) .parts .few;
       room = l .loop .inv .stands .room;
+      counts = λ k h. l .loop .inv .stands .counts k;
     }
 
 refused-file-requires-2 : tie.Need-refused-file-requires-2 Inv-loop μ-loop
