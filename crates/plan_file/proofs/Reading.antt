@@ -47,11 +47,11 @@ yes-more n a l ls y p (x ∷ xs) k behind e =
     let m : n + suc (length xs) ≡ suc n + length xs = omega arith in
     rw (m, ← q) (p xs k behind f)
 
-yes-first : (n : ℕ) (a : Above) (l : Line) (ls : List Line) → AllYes n a (l ∷ ls) → allYes (questionsAt n a l) ≡ true
+pub yes-first : (n : ℕ) (a : Above) (l : Line) (ls : List Line) → AllYes n a (l ∷ ls) → allYes (questionsAt n a l) ≡ true
 unfolding said
 yes-first n a l ls p = rw add-zero at (p [] l ls refl)
 
-yes-rest : (n : ℕ) (a : Above) (l : Line) (ls : List Line) → AllYes n a (l ∷ ls) → AllYes (suc n) (after a (recordIn l)) ls
+pub yes-rest : (n : ℕ) (a : Above) (l : Line) (ls : List Line) → AllYes n a (l ∷ ls) → AllYes (suc n) (after a (recordIn l)) ls
 unfolding said
 yes-rest n a l ls p xs k behind e =
     let m : suc n + length xs ≡ n + suc (length xs) = omega arith in

@@ -116,7 +116,7 @@ module _ (s : List ℕ) (seen : Seen) where
   end-record n Unknown d e = absurd (omega (arith, ap kindOf d))
 
 -- above a record that is allowed
-not-empty : {A : Type 0} (xs : List A) → not (isEmpty xs) ≡ true → 1 ≤ length xs
+pub not-empty : {A : Type 0} (xs : List A) → not (isEmpty xs) ≡ true → 1 ≤ length xs
 unfolding isEmpty
 not-empty [] e = absurd (false≢true e)
 not-empty (x ∷ xs) e = omega arith

@@ -3,7 +3,7 @@
 use Prim.Native.Nat.{suc, _-_, _≤_}
 use native.Mathlib.Omega.{arith}
 use mathlib.Core.Path.{_≡_, refl, ap}
-use mathlib.Core.List.{List, [], _∷_, _++_, map, dropLast, List·Memᴰ, List·Memᴰ·head, List·Memᴰ·tail}
+use mathlib.Core.List.{List, [], _∷_, _++_, map, dropLast, List·Memᴰ, List·Memᴰ·head, List·Memᴰ·tail, List·Memᴰ·eq-of-singleton}
 use lib.ListN.{length}
 use Rattle.least.specs.Lists.{lastOr, onLast}
 
@@ -61,6 +61,19 @@ module _ {A : Type 0} where
   drop-last-member [] m = m
   drop-last-member (y ∷ z ∷ zs) (List·Memᴰ·head q) = List·Memᴰ·head q
   drop-last-member (y ∷ z ∷ zs) (List·Memᴰ·tail m) = List·Memᴰ·tail (drop-last-member (z ∷ zs) m)
+
+  -- what holds of every element holds of every element with one more, or with another last one, of which it holds
+  pub snoc-each : (P : A → Type 0) (xs : List A) (x : A) → ((y : A) → List·Memᴰ y xs → P y) → P x → (y : A) → List·Memᴰ y (xs ++ (x ∷ [])) → P y
+  snoc-each P [] x all h y m = rw (List·Memᴰ·eq-of-singleton m) h
+  snoc-each P (z ∷ zs) x all h y (List·Memᴰ·head q) = all y (List·Memᴰ·head q)
+  snoc-each P (z ∷ zs) x all h y (List·Memᴰ·tail m) = snoc-each P zs x (λ u k. all u (List·Memᴰ·tail k)) h y m
+
+  pub on-last-each : (P : A → Type 0) (f : A → A) (d : A) (xs : List A) → ((y : A) → List·Memᴰ y xs → P y) → (1 ≤ length xs → P (f (lastOr d xs))) → (y : A) → List·Memᴰ y (onLast f xs) → P y
+  unfolding lastOr onLast
+  on-last-each P f d [] all h y m = all y m
+  on-last-each P f d (x ∷ []) all h y m = rw (List·Memᴰ·eq-of-singleton m) (h (omega arith))
+  on-last-each P f d (x ∷ z ∷ zs) all h y (List·Memᴰ·head q) = all y (List·Memᴰ·head q)
+  on-last-each P f d (x ∷ z ∷ zs) all h y (List·Memᴰ·tail m) = on-last-each P f x (z ∷ zs) (λ u k. all u (List·Memᴰ·tail k)) (λ k. h (omega arith)) y m
 
   pub map-on-last : {B : Type 0} (f : A → B) (g : A → A) (xs : List A) → ((x : A) → f (g x) ≡ f x) → map f (onLast g xs) ≡ map f xs
   unfolding onLast

@@ -21,11 +21,11 @@ abbrev pub namesIn : List FileLock → List (List ℕ)
 namesIn ls = map (λ l. l .name) ls
 
 -- how long a lock is held
-held-here : (name : List ℕ) (l : FileLock) (ls : List FileLock) → same name (l .name) ≡ true → heldUnder name (l ∷ ls) ≡ l .held
+pub held-here : (name : List ℕ) (l : FileLock) (ls : List FileLock) → same name (l .name) ≡ true → heldUnder name (l ∷ ls) ≡ l .held
 unfolding heldUnder
 held-here name l ls e = simp e
 
-held-later : (name : List ℕ) (l : FileLock) (ls : List FileLock) → same name (l .name) ≡ false → heldUnder name (l ∷ ls) ≡ heldUnder name ls
+pub held-later : (name : List ℕ) (l : FileLock) (ls : List FileLock) → same name (l .name) ≡ false → heldUnder name (l ∷ ls) ≡ heldUnder name ls
 unfolding heldUnder
 held-later name l ls e = simp e
 

@@ -3,9 +3,8 @@
 use Prim.Native.Nat.{ℕ, _≤_, _<_}
 use native.Mathlib.Omega.{arith}
 use mathlib.Core.Path.{_≡_, refl, sym, ap, ap₂, _∙_}
-use mathlib.Core.Logic.{⊎-elim}
 use mathlib.Core.Bool.{false}
-use mathlib.Core.List.{List, [], _∷_, _++_, map-append, List·Memᴰ, List·Memᴰ·not-nil, List·Memᴰ·append-cases, List·Memᴰ·eq-of-singleton}
+use mathlib.Core.List.{List, [], _∷_, _++_, map-append, List·Memᴰ·not-nil}
 use lib.ListN.{length, set, length-map}
 use Rattle.least.specs.Lists.{pad, lastOr, onLast, joined}
 use Rattle.text.specs.Bytes.{among, mention, distinctAfter}
@@ -17,7 +16,7 @@ use Rattle.plan_file.specs.Above.{FileLock, FileTask, FilePart, noTask, 
 use Rattle.plan_file.specs.Reading.{taskNames, locksOf}
 use Rattle.plan_file.specs.Entries.{FineNames, noNames, noTaskRead, namesOf, placeOf, withName, withLockName}
 use Rattle.plan_file.proofs.Places.{names-length}
-use Rattle.plan_file.proofs.SeenLast.{last-snoc, last-on-last, map-on-last}
+use Rattle.plan_file.proofs.SeenLast.{last-snoc, last-on-last, map-on-last, snoc-each}
 use Rattle.plan_file.proofs.SeenNames.{names-with, fine-with, no-names, fine-none, names-lock, fine-lock}
 use Rattle.plan_file.proofs.SeenLocks.{AllHeld, lock-names-different, lock-names-task, lock-names-lock}
 use Rattle.plan_file.proofs.SeenTasks.{taskWith, padded, padded-new, padded-lock}
@@ -98,8 +97,7 @@ module _ (s : List ℕ) (ts ls : Names) (last : Task) (p : FilePart) (is : PartI
         ∙ padded-lock (lockNames p) (lastTask p) it new (lock-names-different p) few
 
     held-after-lock : 1 ≤ c → AllHeld (withLock it (lastTask p) .locks)
-    held-after-lock h l m =
-        ⊎-elim (λ (k : List·Memᴰ l (lastTask p .locks)). is .held l k) (λ (k : List·Memᴰ l (it ∷ [])). rw (List·Memᴰ·eq-of-singleton k) h) (List·Memᴰ·append-cases (lastTask p .locks) m)
+    held-after-lock h = snoc-each (λ l. 1 ≤ l .held) (lastTask p .locks) it (is .held) h
 
     pub part-is-lock : 1 ≤ c → among (bytesOf s nm) (locksOf (lastTask p)) ≡ false → PartIs s ts (withLockName ls nm at) (storedUse last at c) (withTasks (onLast (withLock it)) p)
     part-is-lock h new = record {
