@@ -1,18 +1,19 @@
 -- What the struct that the reader hands on says of the file.
 -- Assumes nothing.
-use Prim.Native.Nat.{ℕ}
+use Prim.Native.Nat.{ℕ, zero, suc, _<_}
 use native.Mathlib.Omega.{arith}
 use mathlib.Core.Path.{_≡_, refl, sym, ap, _∙_}
-use mathlib.Core.List.{List, map}
-use lib.ListN.{length, take, length-map}
-use lib.Seq.{length-take-le}
+use mathlib.Core.List.{List, [], _∷_, map}
+use lib.ListN.{length, take, getD, length-map, List·getD-map}
+use lib.Seq.{getD-take, length-take-le}
 use Rattle.refusal.specs.declared.Refusal.{Refusal}
 use Rattle.refusal.specs.declared.Outcome.{Outcome}
 use Rattle.refusal.specs.declared.Outcome.the-variants.{Done, Refused}
 use Rattle.refusal.specs.Questions.{Answer}
 use Rattle.refusal.specs.Questions.Answer.{answered, refused}
-use Rattle.plan_file.specs.Above.{FilePart}
+use Rattle.plan_file.specs.Above.{FilePart, noPart}
 use Rattle.plan_file.specs.Reading.{readFile}
+use Rattle.reader.specs.declared.PartRead.{PartRead}
 use Rattle.reader.specs.declared.PlanFile.{PlanFile}
 use Rattle.reader.specs.Reader.{ReadPart, numbersOf, numbered, partOf, answerOf, fileOf, ReadIs}
 
@@ -61,3 +62,19 @@ module _ (s : List ℕ) (f : PlanFile) (is : ReadIs s f) where
             count = omega (arith, length-map ps numbersOf, length-map (take (f .count) (f .parts)) (partOf s), ap length same, length-take-le (f .count) (f .parts) (omega (arith, is .few, is .room)));
           }
       go (refused x) h = absurd (never-refused x (said ∙ ap numbered h))
+
+-- an element that is there does not depend on what stands for one that is not
+pub getD-any : {A : Type 0} (l : List A) (j : ℕ) (d e : A) → j < length l → getD l j d ≡ getD l j e
+getD-any [] j d e h = absurd (omega arith)
+getD-any (x ∷ l) zero d e h = refl
+getD-any (x ∷ l) (suc j) d e h = getD-any l j d e (omega arith)
+
+-- the part at a place, as it was handed on
+pub part-handed : (s : List ℕ) (f : PlanFile) (h : Handed s f) (j : ℕ) (d : PartRead) → j < f .count → numbersOf (getD (h .parts) j noPart) ≡ partOf s (getD (f .parts) j d)
+part-handed s f h j d l =
+    let most : j < length (map numbersOf (h .parts)) = omega (arith, length-map (h .parts) numbersOf, h .count) in
+    sym (List·getD-map numbersOf (h .parts) j noPart)
+    ∙ getD-any (map numbersOf (h .parts)) j (numbersOf noPart) (partOf s d) most
+    ∙ ap (λ (l : List ReadPart). getD l j (partOf s d)) (sym (h .same))
+    ∙ List·getD-map (partOf s) (take (f .count) (f .parts)) j d
+    ∙ ap (partOf s) (getD-take (f .count) (f .parts) j d l)

@@ -3,3 +3,4 @@ pub mod Stands
 pub mod Reading
 pub mod Turns
 pub mod Handed
+pub mod Fine
