@@ -1,34 +1,28 @@
--- The local test of a task as a fixed point: its need is met at t exactly if the ticks in which it is supplied are at most t.
+-- The local test of one task by iteration: its need is met at t just if the inverse of the supply takes the need at t to at most t.
+--   ticks P Q b task higher t == the ticks in which the need at t is supplied
 -- Assumes nothing.
-use Prim.Native.Nat.{ℕ, suc, _+_, _≤_, _<_}
+use Prim.Native.Nat.{ℕ, _≤_, _<_}
 use native.Mathlib.Nat.{le-refl, add-le-add}
 use native.Mathlib.Omega.{arith}
-use mathlib.Core.Path.{_≡_, refl, sym, _∙_}
+use mathlib.Core.Path.{_≡_, refl, sym, ap, _∙_, fun-ext}
 use mathlib.Core.Bool.{Bool, true, false, false≢true}
-use borrow.Author.Tests.{le-leb, lt-leb, leb-true, leb-false}
+use mathlib.Core.List.{List}
 use lib.Dec.{leb}
-use lib.ListN.{drop, getD}
-use Rattle.least.specs.Search.{anyFrom}
-use Rattle.least.proofs.Search.{any-same}
-use Rattle.least.proofs.Iterate.{Mono, settles, Unsolved, step-unsolved, past-any, rest-any}
+use borrow.Author.Tests.{le-leb, lt-leb, leb-true, leb-false}
+use Rattle.least.specs.declared.Least.the-variants.{At, Nothing}
+use Rattle.least.specs.Search.{leastFrom, leastUpTo}
+use Rattle.least.proofs.Search.{least-iff, none-iff, any-true, any-false}
+use Rattle.least.proofs.Iterate.{Mono, settles, Unsolved, step-unsolved, past-limit, at-rest}
 use Rattle.supply.specs.Supply.{supplyOf, ReachIs}
-use Rattle.supply.proofs.SupplyLaws.{reach, reach-iff, reach-mono, reach-over}
+use Rattle.supply.proofs.SupplyLaws.{reach, reach-iff, reach-mono, reach-over, supply-mono-Q}
 use Rattle.task_set.specs.declared.Task.{Task}
-use Rattle.task_set.specs.declared.Part.{Part}
-use Rattle.task_set.specs.Tasks.{demandIn, tasksOf}
 use Rattle.task_set.specs.Blocking.{needOf}
-use Rattle.task_set.specs.Fine.{blankTask, FinePart}
-use Rattle.task_set.proofs.Demand.{separated-drop, demand-mono}
-use Rattle.task_set.proofs.Places.{fine-separated}
+use Rattle.task_set.proofs.Demand.{Separated, demand-mono}
 use Rattle.budget.specs.Budget.{taskPasses}
-use Rattle.budget.specs.Code.{passesAt}
+use Rattle.budget.specs.Code.{isMet, passingTime, NoneMet}
 
--- what the task at the place i needs in t ticks, and the ticks in which that is supplied
-abbrev pub needAt : Part → ℕ → ℕ → ℕ → ℕ
-needAt p i b t = needOf b (getD (p .tasks) i blankTask) (drop (suc i) (tasksOf p)) t
-
-abbrev pub ticksAt : Part → ℕ → ℕ → ℕ → ℕ → ℕ
-ticksAt p i b Q t = reach (p .period) Q (needAt p i b t)
+abbrev pub ticks : ℕ → ℕ → ℕ → Task → List Task → ℕ → ℕ
+ticks P Q b task higher t = reach P Q (needOf b task higher t)
 
 -- the inverse of the supply is one number
 pub reach-unique : (P Q x r : ℕ) → 1 ≤ Q → Q ≤ P → 1 ≤ x → ReachIs P Q x r → r ≡ reach P Q x
@@ -48,32 +42,60 @@ same-tests a b c d f g = go (leb a b) refl
         past true h = absurd (false≢true (sym e ∙ le-leb a b (g (leb-true c d h))))
         past false h = leb-false c d h
 
-module _ (p : Part) (fine : FinePart p) (i b Q : ℕ) (h : i < p .count) (o : 1 ≤ Q) (u : Q ≤ p .period) where
-  need-mono : Mono (needAt p i b)
-  unfolding needOf
-  need-mono v w l =
-      add-le-add (add-le-add (le-refl (getD (p .tasks) i blankTask .cost)) (demand-mono (separated-drop (suc i) (fine-separated p fine)) v w l)) (le-refl b)
+-- what a greater budget does not meet, a smaller one does not meet
+pub none-met-less : (P Q R b : ℕ) (task : Task) (higher : List Task) (s : ℕ) → 1 ≤ Q → Q ≤ R → R ≤ P → NoneMet P R b task higher s → NoneMet P Q b task higher s
+none-met-less P Q R b task higher s o l u none t p h =
+    lt-leb (needOf b task higher t) (supplyOf P Q t) (omega (arith, supply-mono-Q P Q R t o l u, leb-false (needOf b task higher t) (supplyOf P R t) (none t p h)))
 
-  pub need-some : (t : ℕ) → 1 ≤ needAt p i b t
-  unfolding needOf
-  need-some t = omega (arith, fine .each i h)
+module _ (P Q b : ℕ) (task : Task) (higher : List Task) where
+  -- a passing time tells whether the task passes
+  pub time-passes : (t : ℕ) → passingTime P Q b task higher ≡ At t → taskPasses P Q b task higher ≡ true
+  unfolding passingTime taskPasses
+  time-passes t e = let l = least-iff (isMet P Q b task higher) (task .deadline) t .0 e in any-true _ (task .deadline) 1 t (l .0 .positive) (omega (arith, l .1)) (l .0 .passes)
 
-  pub ticks-mono : Mono (ticksAt p i b Q)
-  ticks-mono v w l = reach-mono (p .period) Q _ _ o (need-mono v w l)
+  pub no-time-fails : passingTime P Q b task higher ≡ Nothing → taskPasses P Q b task higher ≡ false
+  unfolding passingTime taskPasses
+  no-time-fails e = any-false _ (task .deadline) 1 (λ v p h. none-iff (isMet P Q b task higher) (task .deadline) .0 e v p (omega arith))
 
-  passes-settles : passesAt p i b Q ≡ anyFrom (settles (ticksAt p i b Q)) 1 (getD (p .tasks) i blankTask .deadline)
-  unfolding passesAt taskPasses
-  passes-settles =
-      any-same _ _ (getD (p .tasks) i blankTask .deadline) 1
-      (λ t l m. same-tests (needAt p i b t) (supplyOf (p .period) Q t) (ticksAt p i b Q t) t (reach-iff (p .period) Q t (needAt p i b t) o u (need-some t) .0) (reach-iff (p .period) Q t (needAt p i b t) o u (need-some t) .1))
+  -- nothing is met before the passing time
+  pub time-first : (t : ℕ) → passingTime P Q b task higher ≡ At t → NoneMet P Q b task higher t
+  unfolding passingTime
+  time-first t e v p h = go (isMet P Q b task higher v) refl
+    where
+      go : (m : Bool) → isMet P Q b task higher v ≡ m → isMet P Q b task higher v ≡ false
+      go true q = absurd (omega (arith, least-iff (isMet P Q b task higher) (task .deadline) t .0 e .0 .first v p q))
+      go false q = q
 
-  -- the ways out of the search: past the deadline, a need past the deadline, and a need that is met
-  pub pass-past : (t : ℕ) → Unsolved (ticksAt p i b Q) t → getD (p .tasks) i blankTask .deadline < t → passesAt p i b Q ≡ false
-  pass-past t uns l = passes-settles ∙ past-any _ t (getD (p .tasks) i blankTask .deadline) uns l
+  module _ (apart : Separated higher) (some : 1 ≤ task .cost) (o : 1 ≤ Q) (u : Q ≤ P) where
+    need-mono : Mono (needOf b task higher)
+    unfolding needOf
+    need-mono v w l = add-le-add (add-le-add (le-refl (task .cost)) (demand-mono apart v w l)) (le-refl b)
 
-  pub pass-over : (t : ℕ) → Unsolved (ticksAt p i b Q) t → getD (p .tasks) i blankTask .deadline < needAt p i b t → passesAt p i b Q ≡ false
-  pass-over t uns l =
-      pass-past (needAt p i b t) (step-unsolved _ t (needAt p i b t) ticks-mono uns (reach-over (p .period) Q (needAt p i b t))) l
+    pub need-some : (t : ℕ) → 1 ≤ needOf b task higher t
+    unfolding needOf
+    need-some t = omega arith
 
-  pub pass-met : (t : ℕ) → 1 ≤ t → t ≤ getD (p .tasks) i blankTask .deadline → ticksAt p i b Q t ≤ t → passesAt p i b Q ≡ true
-  pass-met t s l m = passes-settles ∙ rest-any _ t (getD (p .tasks) i blankTask .deadline) s l m
+    pub ticks-mono : Mono (ticks P Q b task higher)
+    ticks-mono v w l = reach-mono P Q _ _ o (need-mono v w l)
+
+    met-settles : (t : ℕ) → isMet P Q b task higher t ≡ settles (ticks P Q b task higher) t
+    met-settles t =
+        same-tests (needOf b task higher t) (supplyOf P Q t) (ticks P Q b task higher t) t (reach-iff P Q t (needOf b task higher t) o u (need-some t) .0) (reach-iff P Q t (needOf b task higher t) o u (need-some t) .1)
+
+    time-settles : passingTime P Q b task higher ≡ leastFrom (settles (ticks P Q b task higher)) 1 (task .deadline)
+    unfolding passingTime
+    time-settles = ap (λ test. leastUpTo test (task .deadline)) (fun-ext met-settles)
+
+    pub start-unmet : (s : ℕ) → NoneMet P Q b task higher s → Unsolved (ticks P Q b task higher) s
+    start-unmet s none v p h = leb-false (ticks P Q b task higher v) v (sym (met-settles v) ∙ none v p h)
+
+    -- the ways out of the search: past the deadline, a need past the deadline, and a need that is met
+    pub time-past : (t : ℕ) → Unsolved (ticks P Q b task higher) t → task .deadline < t → passingTime P Q b task higher ≡ Nothing
+    time-past t uns l = time-settles ∙ past-limit _ t (task .deadline) uns l
+
+    pub time-over : (t : ℕ) → Unsolved (ticks P Q b task higher) t → task .deadline < needOf b task higher t → passingTime P Q b task higher ≡ Nothing
+    time-over t uns l =
+        time-past (needOf b task higher t) (step-unsolved _ t (needOf b task higher t) ticks-mono uns (reach-over P Q (needOf b task higher t))) l
+
+    pub time-met : (t : ℕ) → Unsolved (ticks P Q b task higher) t → 1 ≤ t → t ≤ task .deadline → ticks P Q b task higher t ≤ t → passingTime P Q b task higher ≡ At t
+    time-met t uns s l m = time-settles ∙ at-rest _ t (task .deadline) uns s l m

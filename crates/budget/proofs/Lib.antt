@@ -1,3 +1,4 @@
 pub mod Passing
 pub mod SettingsAgree
 pub mod Iteration
+pub mod Narrow

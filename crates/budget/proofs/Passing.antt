@@ -1,16 +1,16 @@
 -- Laws of the local test: the paper's words, and that a greater budget passes where a smaller one does.
 --   Met P Q blocking task higher == some t, 1 ≤ t ≤ D_i, has C_i + Σ_{k>i} ⌈t/T_k⌉×C_k + blocking ≤ supply(t)
 -- Assumes nothing.
-use Prim.Native.Nat.{ℕ, _+_, _≤_, _<_}
+use Prim.Native.Nat.{ℕ, suc, _+_, _-_, _≤_, _<_}
 use native.Mathlib.Nat.{le-refl}
 use native.Mathlib.Omega.{arith}
-use mathlib.Core.Path.{_≡_}
+use mathlib.Core.Path.{_≡_, sym, ap, _∙_}
 use mathlib.Core.Bool.{true, false}
 use mathlib.Core.List.{List, _∷_, _++_, reverse}
 use mathlib.Core.Logic.{_↔_}
 use borrow.Author.Tests.{le-leb, leb-true}
 use Rattle.least.specs.declared.Least.the-variants.{At, Nothing}
-use Rattle.least.specs.Search.{IsLeast}
+use Rattle.least.specs.Search.{leastFrom, IsLeast}
 use Rattle.least.proofs.Search.{least-iff, any-iff}
 use Rattle.least.proofs.Bisect.{least-after, none-rising}
 use Rattle.least.proofs.Along.{along-iff}
@@ -50,6 +50,10 @@ met-more : (P Q R b c : ℕ) (task : Task) (higher : List Task) → 1 ≤ Q → 
 unfolding needOf
 met-more P Q R b c task higher o l u d (t, from, upto, met) = (t, from, upto, omega (arith, supply-mono-Q P Q R t o l u))
 
+pub task-mono-Q : (P Q R b : ℕ) (task : Task) (higher : List Task) → 1 ≤ Q → Q ≤ R → R ≤ P → taskPasses P Q b task higher ≡ true → taskPasses P R b task higher ≡ true
+task-mono-Q P Q R b task higher o l u t =
+    taskPasses-iff P R b task higher .1 (met-more P Q R b b task higher o l u (le-refl b) (taskPasses-iff P Q b task higher .0 t))
+
 -- the same of a part: ceilings that are no higher block no more
 pub passes-more : (P : ℕ) (ts : List Task) (m : ℕ) (σ τ : Setting) (Q R : ℕ) → 1 ≤ Q → Q ≤ R → R ≤ P
     → ((l : ℕ) → 1 ≤ l → l ≤ m → τ l ≤ σ l) → passes P ts m σ Q ≡ true → passes P ts m τ R ≡ true
@@ -74,4 +78,4 @@ module _ (P : ℕ) (ts : List Task) (m : ℕ) (σ : Setting) where
 
   pub budget-none : passes P ts m σ P ≡ false → leastBudget P ts m σ ≡ Nothing
   unfolding leastBudget
-  budget-none f = none-rising (passes P ts m σ) P passes-mono-Q f
+  budget-none f = let e : suc P - 1 ≡ P = omega arith in ap (leastFrom (passes P ts m σ) 1) (sym e) ∙ none-rising (passes P ts m σ) 1 P (omega arith) passes-mono-Q f

@@ -1,13 +1,33 @@
 -- What the functions of this crate give. Places count from 0: the task at the place i has the number i + 1.
---   passesAt p i b Q == the task at the place i passes with the budget Q, where its blocking is b
+--   dueTask costs i D     == the task at the place i, with its C and its deadline
+--   passingTime P Q b task higher == the least t, 1 ≤ t ≤ D, at which the task's need is met
+--   NoneMet P Q b task higher t   == it is not met before t
+--   budgetFrom P q b task higher  == the least budget from q to P with which the task passes
 -- Assumes nothing.
-use Prim.Native.Nat.{ℕ, suc}
-use mathlib.Core.Bool.{Bool}
-use lib.ListN.{drop, getD}
-use Rattle.task_set.specs.declared.Part.{Part}
-use Rattle.task_set.specs.Tasks.{tasksOf}
-use Rattle.task_set.specs.Fine.{blankTask}
+use Prim.Native.Nat.{ℕ, suc, _-_, _≤_, _<_}
+use mathlib.Core.Path.{_≡_}
+use mathlib.Core.Bool.{Bool, false}
+use mathlib.Core.List.{List, []}
+use lib.Dec.{leb}
+use lib.ListN.{getD}
+use Rattle.least.specs.declared.Least.{Least}
+use Rattle.least.specs.Search.{leastFrom, leastUpTo}
+use Rattle.supply.specs.Supply.{supplyOf}
+use Rattle.task_set.specs.declared.Task.{Task}
+use Rattle.task_set.specs.Blocking.{needOf}
 use Rattle.budget.specs.Budget.{taskPasses}
 
-unfoldable pub passesAt : Part → ℕ → ℕ → ℕ → Bool
-passesAt p i b Q = taskPasses (p .period) Q b (getD (p .tasks) i blankTask) (drop (suc i) (tasksOf p))
+abbrev pub dueTask : List ℕ → ℕ → ℕ → Task
+dueTask costs i D = record { separation = 0; cost = getD costs i 0; deadline = D; uses = [] }
+
+abbrev pub isMet : ℕ → ℕ → ℕ → Task → List Task → ℕ → Bool
+isMet P Q b task higher t = leb (needOf b task higher t) (supplyOf P Q t)
+
+unfoldable pub passingTime : ℕ → ℕ → ℕ → Task → List Task → Least
+passingTime P Q b task higher = leastUpTo (isMet P Q b task higher) (task .deadline)
+
+abbrev pub NoneMet : ℕ → ℕ → ℕ → Task → List Task → ℕ → Type 0
+NoneMet P Q b task higher s = (t : ℕ) → 1 ≤ t → t < s → isMet P Q b task higher t ≡ false
+
+unfoldable pub budgetFrom : ℕ → ℕ → ℕ → Task → List Task → Least
+budgetFrom P q b task higher = leastFrom (λ Q. taskPasses P Q b task higher) q (suc P - q)

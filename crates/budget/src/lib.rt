@@ -1,28 +1,79 @@
-// The local test of a part under a setting, and the least budget that passes it.
-use task_set::Part;
+// The local test of one task, and its least budget. The tasks are lent by columns (crate task_set).
+use least::Least;
 ghost use mathlib.Core.Path.{_≡_};
-ghost use Prim.Native.Nat.{_^_, _≤_, _<_};
-ghost use Rattle.task_set.specs.Fine.{FinePart};
-ghost use Rattle.budget.specs.Code.{passesAt};
+ghost use Prim.Native.Nat.{suc, _^_, _≤_, _<_};
+ghost use Rattle.task_set.specs.Tasks.{higher};
+ghost use Rattle.task_set.specs.ByColumn.{timesOf, FineTimes};
+ghost use Rattle.budget.specs.Code.{dueTask, passingTime, NoneMet, budgetFrom};
 
-// Whether the task at the place i, blocked for at most b ticks, meets its deadline with the budget q.
-pub fn task_passes(part: Part, i: usize, b: u64, q: u64) -> bool
-    requires { ⌜ FinePart part × (i < part .count) × (b ≤ 2 ^ 20) × (1 ≤ q) × (q ≤ part .period) × (part .period ≤ 2 ^ 20) ⌝ }
-    ensures { λ x. ⌜ x ≡ passesAt part i b q ⌝ }
+// The least time up to its deadline at which the task at the place i, blocked for at most b ticks, has got what it needs with the budget q. There is
+// none before `start`.
+fn passing_time(
+    separations: &[u64; 16],
+    costs: &[u64; 16],
+    n: usize,
+    i: usize,
+    deadline: u64,
+    period: u64,
+    b: u64,
+    q: u64,
+    start: u64,
+) -> Least
+    requires { ⌜ FineTimes (now separations) (now costs) n × (i < n) × (deadline ≤ 2 ^ 20) × (period ≤ 2 ^ 20) × (b ≤ 2 ^ 20) × (1 ≤ q) × (q ≤ period) × (1 ≤ start) × NoneMet period q b (dueTask (now costs) i deadline) (higher (suc i) (timesOf (now separations) (now costs) n)) start ⌝ }
+    ensures { λ x. ⌜ x ≡ passingTime period q b (dueTask (now (costs .entry)) i deadline) (higher (suc i) (timesOf (now (separations .entry)) (now (costs .entry)) n)) ⌝ }
 {
-    let task = part.tasks[i];
-    let limit = task.deadline;
-    let mut t = 1;
-    while t <= limit {
-        let need = task.cost + task_set::demand_above(part, i + 1, t) + b;
-        if limit < need {
-            return false;
+    let own = costs[i] + b;
+    let mut t = start;
+    while t <= deadline {
+        let need = own + task_set::demand_above(separations, costs, n, i + 1, t);
+        if deadline < need {
+            return Least::Nothing;
         }
-        let next = supply::reach_at(part.period, q, need);
+        let next = supply::reach_at(period, q, need);
         if next <= t {
-            return true;
+            return Least::At(t);
         }
         t = next;
     }
-    false
+    Least::Nothing
+}
+
+// The least budget, from q to the whole period, with which the task at the place i, blocked for at most b ticks, passes.
+pub fn least_budget(
+    separations: &[u64; 16],
+    costs: &[u64; 16],
+    n: usize,
+    i: usize,
+    deadline: u64,
+    period: u64,
+    b: u64,
+    q: u64,
+) -> Least
+    requires { ⌜ FineTimes (now separations) (now costs) n × (i < n) × (deadline ≤ 2 ^ 20) × (period ≤ 2 ^ 20) × (b ≤ 2 ^ 20) × (1 ≤ q) × (q ≤ period) ⌝ }
+    ensures { λ x. ⌜ x ≡ budgetFrom period q b (dueTask (now (costs .entry)) i deadline) (higher (suc i) (timesOf (now (separations .entry)) (now (costs .entry)) n)) ⌝ }
+{
+    if let Least::At(_) = passing_time(separations, costs, n, i, deadline, period, b, q, 1) {
+        return Least::At(q);
+    }
+    let Least::At(first) = passing_time(separations, costs, n, i, deadline, period, b, period, 1)
+    else {
+        return Least::Nothing;
+    };
+    // A smaller budget passes no earlier.
+    let mut time = first;
+    let mut low = q + 1;
+    let mut high = period;
+    while low < high {
+        let middle = low + (high - low) / 2;
+        match passing_time(separations, costs, n, i, deadline, period, b, middle, time) {
+            Least::At(t) => {
+                high = middle;
+                time = t;
+            }
+            Least::Nothing => {
+                low = middle + 1;
+            }
+        }
+    }
+    Least::At(high)
 }

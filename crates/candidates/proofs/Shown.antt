@@ -20,13 +20,13 @@ use Rattle.least.proofs.Lists.{those-member, smallest-le}
 use Rattle.task_set.specs.declared.Task.{Task}
 use Rattle.task_set.specs.Tasks.{uses, lowestCeiling, smallestDeadline}
 use Rattle.task_set.specs.Blocking.{Setting}
-use Rattle.holding.specs.Holding.{held, HoldingTime, holdingOf, holdingTimeOf}
+use Rattle.holding.specs.Holding.{held, HoldingTime, holdingOf, within, holdingTimeOf}
 use Rattle.holding.proofs.Holding.{inRange-paper, holding-paper, permitted-paper, holdingTime-paper}
 use Rattle.holding.proofs.Falling.{holdingTime-falls}
 use Rattle.budget.specs.Budget.{passes, leastBudget}
 use Rattle.budget.proofs.Passing.{passes-more, budget-iff}
 use Rattle.candidates.specs.declared.Pair.{Pair}
-use Rattle.candidates.specs.Candidates.{pair, within, shownCeiling}
+use Rattle.candidates.specs.Candidates.{pair, shownCeiling}
 use Rattle.candidates.specs.Statement.{Permitted, Candidate, IsKept}
 
 pub record Within (ts : List Task) (x l r : ℕ) : Type 0 where

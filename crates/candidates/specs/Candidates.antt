@@ -19,7 +19,7 @@ use Rattle.least.specs.Lists.{range, every, those, joined, pad}
 use Rattle.task_set.specs.declared.Task.{Task}
 use Rattle.task_set.specs.Tasks.{lowestCeiling}
 use Rattle.task_set.specs.Blocking.{Setting}
-use Rattle.holding.specs.Holding.{holdingOf, permitted, holdingTimeOf}
+use Rattle.holding.specs.Holding.{holdingOf, within, permitted, holdingTimeOf}
 use Rattle.budget.specs.Budget.{leastBudget}
 use Rattle.candidates.specs.declared.Pair.{Pair}
 use Rattle.candidates.specs.declared.Kept.{Kept}
@@ -78,11 +78,6 @@ keptAnswer cs = record { pairs = pad 121 (pair 0 0) cs; count = length cs }
 
 abbrev pub keptOf : ℕ → List Task → ℕ → Kept
 keptOf P ts m = keptAnswer (keptList P ts m)
-
--- w is at most x, and permitted
-abbrev pub within : ℕ → Least → Bool
-within x (At w) = leb w x
-within x Nothing = false
 
 unfoldable pub shownCeiling : List Task → ℕ → Setting
 shownCeiling ts x l =

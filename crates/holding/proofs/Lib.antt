@@ -2,3 +2,4 @@ pub mod Holding
 pub mod SettingsAgree
 pub mod Falling
 pub mod Iteration
+pub mod Within

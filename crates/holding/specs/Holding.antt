@@ -2,6 +2,7 @@
 --   held ts l r w      == g + Σ_{k>r} ⌈w/T_k⌉×C_k ≤ w, with g the greatest c of lock l
 --   HoldingTime ts l r w == w is the holding time of lock l at r: the least whole number w ≥ 1 with that
 --   holdingOf ts l r   == that w, if it exists and is at most the smallest deadline among the users of lock l
+--   within x a         == a holding time that was found is at most x
 --   inRange ts m σ     == σ is a setting: each ceiling is from the lock's lowest to n
 --   permitted ts m σ   == each lock's w exists and is at most the smallest deadline among its users
 --   holdingTimeOf ts m σ == X: the greatest w, or 0 without locks
@@ -28,6 +29,10 @@ HoldingTime ts l r w = IsLeast (held ts l r) w
 
 unfoldable pub holdingOf : List Task → ℕ → ℕ → Least
 holdingOf ts l r = leastUpTo (held ts l r) (smallestDeadline l ts)
+
+abbrev pub within : ℕ → Least → Bool
+within x (At w) = leb w x
+within x Nothing = false
 
 unfoldable pub inRange : List Task → ℕ → Setting → Bool
 inRange ts m σ = every (λ l. leb (lowestCeiling l ts) (σ l) && leb (σ l) (length ts)) (range 1 m)

@@ -1,16 +1,21 @@
-// Holding times of locks and of settings.
+// Holding times of locks and of settings. The tasks are lent by columns (crate task_set).
 use least::Least;
-use task_set::Part;
 ghost use mathlib.Core.Path.{_≡_};
 ghost use Prim.Native.Nat.{_^_, _≤_};
-ghost use Rattle.task_set.specs.Tasks.{tasksOf};
-ghost use Rattle.task_set.specs.Fine.{FinePart};
-ghost use Rattle.holding.specs.Code.{holdUpTo};
+ghost use Rattle.task_set.specs.ByColumn.{timesOf, FineTimes};
+ghost use Rattle.holding.specs.Code.{holdUpTo, lowestHeld};
 
 // The holding time of a lock whose longest use is g, at the ceiling r, if it is at most the limit.
-pub fn hold(part: Part, g: u64, r: usize, limit: u64) -> Least
-    requires { ⌜ FinePart part × (1 ≤ g) × (g ≤ 2 ^ 20) × (limit ≤ 2 ^ 20) ⌝ }
-    ensures { λ x. ⌜ x ≡ holdUpTo (tasksOf part) g r limit ⌝ }
+pub fn hold(
+    separations: &[u64; 16],
+    costs: &[u64; 16],
+    n: usize,
+    g: u64,
+    r: usize,
+    limit: u64,
+) -> Least
+    requires { ⌜ FineTimes (now separations) (now costs) n × (1 ≤ g) × (g ≤ 2 ^ 20) × (limit ≤ 2 ^ 20) ⌝ }
+    ensures { λ x. ⌜ x ≡ holdUpTo (timesOf (now (separations .entry)) (now (costs .entry)) n) g r limit ⌝ }
 {
     let mut w = g;
     'search: loop {
@@ -18,7 +23,7 @@ pub fn hold(part: Part, g: u64, r: usize, limit: u64) -> Least
             if limit < w {
                 break 'search Least::Nothing;
             }
-            let next = g + task_set::demand_above(part, r, w);
+            let next = g + task_set::demand_above(separations, costs, n, r, w);
             if next <= w {
                 break w;
             }
@@ -26,4 +31,38 @@ pub fn hold(part: Part, g: u64, r: usize, limit: u64) -> Least
         };
         break 'search Least::At(fixed);
     }
+}
+
+// A ceiling with the holding time of a lock there.
+pub enum Ceiling {
+    Held(usize, u64),
+    NotHeld,
+}
+
+// The lowest ceiling, from r on, at which a lock whose longest use is g is held for at most x, with that time; the limit is the deadline.
+pub fn lowest_within(
+    separations: &[u64; 16],
+    costs: &[u64; 16],
+    n: usize,
+    g: u64,
+    limit: u64,
+    r: usize,
+    x: u64,
+) -> Ceiling
+    requires { ⌜ FineTimes (now separations) (now costs) n × (1 ≤ g) × (g ≤ 2 ^ 20) × (limit ≤ 2 ^ 20) ⌝ }
+    ensures { λ c. ⌜ c ≡ lowestHeld (timesOf (now (separations .entry)) (now (costs .entry)) n) g limit x r ⌝ }
+{
+    let most = least::smaller(limit, x);
+    let mut k = r;
+    while k <= n {
+        match hold(separations, costs, n, g, k, most) {
+            Least::At(w) => {
+                return Ceiling::Held(k, w);
+            }
+            Least::Nothing => {
+                k += 1;
+            }
+        }
+    }
+    Ceiling::NotHeld
 }

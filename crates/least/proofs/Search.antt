@@ -38,6 +38,14 @@ module _ (test : ℕ → Bool) where
       at (inl q) = ap test (sym q) ∙ f
       at (inr q) = none v q h
 
+  -- one number more at the end
+  pub none-next : (a e : ℕ) → NoneIn test a e → test e ≡ false → NoneIn test a (e + 1)
+  none-next a e none f v l h = at (eq-or-lt-of-le (omega arith))
+    where
+      at : (v ≡ e) ⊎ (v < e) → test v ≡ false
+      at (inl q) = ap test q ∙ f
+      at (inr q) = none v l q
+
   found : (n a w : ℕ) → a ≡ w → test w ≡ true → leastFrom test a (suc n) ≡ At w
   unfolding leastFrom
   found n a w e p = let h : test a ≡ true = ap test e ∙ p in rw (h, leastFrom) (ap At e)

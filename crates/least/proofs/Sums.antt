@@ -25,7 +25,7 @@ unfolding sum
 sum-most f b [] h = omega arith
 sum-most f b (x ∷ xs) h = omega (arith, suc-mul (length xs) b, h x (List·Memᴰ·head refl), sum-most f b xs (λ y m. h y (List·Memᴰ·tail m)))
 
-length-count : (n a : ℕ) → length (countFrom a n) ≡ n
+pub length-count : (n a : ℕ) → length (countFrom a n) ≡ n
 unfolding countFrom
 length-count zero a = refl
 length-count (suc n) a = ap suc (length-count n (suc a))

@@ -6,10 +6,11 @@ use native.Mathlib.Omega.{arith}
 use native.Mathlib.Decide.{decLt}
 use mathlib.Core.Path.{_≡_, refl, ap, ap₂, _∙_}
 use mathlib.Core.List.{List, [], _∷_, map}
-use lib.ListN.{drop, getD}
+use lib.ListN.{length, drop, getD, length-map}
 use Rattle.least.specs.Round.{ceilDiv}
 use Rattle.least.specs.Lists.{sum, countFrom}
 use Rattle.least.proofs.Round.{ceil-le, product}
+use Rattle.least.proofs.Sums.{length-count}
 use Rattle.task_set.specs.Tasks.{demandIn}
 use Rattle.task_set.specs.ByColumn.{timesAt, timesOf, FineTimes}
 use Rattle.task_set.proofs.Demand.{Separated}
@@ -29,6 +30,10 @@ module _ (T C : List ℕ) (n : ℕ) where
   times-from : (k : ℕ) → drop k (timesOf T C n) ≡ map (timesAt T C) (countFrom k (n - k))
   unfolding timesOf
   times-from k = let e : 0 + k ≡ k = omega arith in drop-map (timesAt T C) k (countFrom 0 n) ∙ ap (map (timesAt T C)) (drop-count k 0 n ∙ ap (λ (a : ℕ). countFrom a (n - k)) e)
+
+  pub times-length : length (timesOf T C n) ≡ n
+  unfolding timesOf
+  times-length = length-map (countFrom 0 n) (timesAt T C) ∙ length-count n 0
 
   times-at : (k : ℕ) → k < n → drop k (timesOf T C n) ≡ timesAt T C k ∷ drop (suc k) (timesOf T C n)
   unfolding countFrom

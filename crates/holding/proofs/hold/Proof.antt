@@ -3,33 +3,45 @@
 use Prim.Native.Nat.{ℕ, _+_, _-_, _≤_}
 use mathlib.Core.Path.{_≡_, sym, ap}
 use native.Mathlib.Omega.{arith}
+use mathlib.Core.List.{List}
 use Rattle.least.proofs.Iterate.{Unsolved, start-unsolved, step-unsolved, at-rest, past-limit}
+use Rattle.task_set.specs.declared.Task.{Task}
+use Rattle.task_set.specs.ByColumn.{timesOf}
+use Rattle.task_set.proofs.Demand.{Separated}
+use Rattle.task_set.proofs.Times.{times-separated}
 use Rattle.holding.specs.Code.{holdUpTo}
 use Rattle.holding.proofs.Iteration.{holdNeed, need-mono, need-from}
 use Rattle.holding.proofs.hold.Statement.{statement}
 use Rattle.holding.proofs.hold.Tie as tie
 
 abbrev Inv-loop : tie.InvT-loop
-Inv-loop part g r limit w₀ w = (1 ≤ w) × Unsolved (holdNeed part g r) w
+Inv-loop separations costs n g r limit w₀ w = (1 ≤ w) × Unsolved (holdNeed (timesOf separations costs n) g r) w
 
 abbrev μ-loop : tie.MeasureT-loop
-μ-loop part g r limit w₀ w = limit + 1 - w
+μ-loop separations costs n g r limit w₀ w = limit + 1 - w
 
 -- the labelled loop makes one turn
 abbrev Inv-search : tie.InvT-search
-Inv-search part g r limit w₀ w = (1 ≤ w) × Unsolved (holdNeed part g r) w
+Inv-search separations costs n g r limit w₀ w = (1 ≤ w) × Unsolved (holdNeed (timesOf separations costs n) g r) w
 
 abbrev μ-search : tie.MeasureT-search
-μ-search part g r limit w₀ w = 0
+μ-search separations costs n g r limit w₀ w = 0
+
+-- the tasks
+abbrev tasks : tie.Start Inv-loop μ-loop Inv-search μ-search → List Task
+tasks c = timesOf (c .args .separations .now) (c .args .costs .now) (c .args .n)
+
+apart : (c : tie.Start Inv-loop μ-loop Inv-search μ-search) → Separated (tasks c)
+apart c = times-separated (c .args .separations .now) (c .args .costs .now) (c .args .n) (c .pre .0)
 
 search-holds : tie.Need-search-holds Inv-loop μ-loop Inv-search μ-search
-search-holds c = (omega arith, start-unsolved _ (c .args .g) (need-from (c .args .part) (c .args .g) (c .args .r)))
+search-holds c = (omega arith, start-unsolved _ (c .args .g) (need-from (tasks c) (c .args .g) (c .args .r)))
 
 loop-holds : tie.Need-loop-holds Inv-loop μ-loop Inv-search μ-search
 loop-holds c = c .search .inv
 
 demand-above-requires : tie.Need-demand-above-requires Inv-loop μ-loop Inv-search μ-search
-demand-above-requires c κs = let s = c .before .before .before in (s .pre .0, omega arith)
+demand-above-requires c κs = let s = c .before .before .before in (s .pre .0, omega arith, omega arith)
 
 add-next : tie.Need-add-next Inv-loop μ-loop Inv-search μ-search
 add-next c = omega arith
@@ -39,15 +51,15 @@ loop-less c = omega arith
 
 -- what the code computes is the need at w
 is : (c : tie.After-demand-above Inv-loop μ-loop Inv-search μ-search) →
-    let a = c .before .before .before .before .args in
-    a .g + c .demand-above .result ≡ holdNeed (a .part) (a .g) (a .r) (c .before .before .loop .w)
+    let s = c .before .before .before .before in
+    s .args .g + c .demand-above .result ≡ holdNeed (tasks s) (s .args .g) (s .args .r) (c .before .before .loop .w)
 is c = ap (λ (x : ℕ). c .before .before .before .before .args .g + x) (c .demand-above .ensures .value)
 
 loop-again : tie.Need-loop-again Inv-loop μ-loop Inv-search μ-search
 loop-again c =
     let s = c .before .before .before .before .before in
     let at = c .before .before .before .loop in
-    (omega arith, step-unsolved _ (at .w) _ (need-mono (s .args .part) (s .pre .0) (s .args .g) (s .args .r)) (at .inv .1) (omega (arith, is (c .before))))
+    (omega arith, step-unsolved _ (at .w) _ (need-mono (tasks s) (apart s) (s .args .g) (s .args .r)) (at .inv .1) (omega (arith, is (c .before))))
 
 returns : tie.Need-returns Inv-loop μ-loop Inv-search μ-search
 unfolding holdUpTo

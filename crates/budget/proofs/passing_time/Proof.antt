@@ -1,0 +1,144 @@
+-- `budget::passing_time` meets its contract. The invariant: at no time below t is the need met.
+-- Assumes nothing.
+use Prim.Native.Nat.{ℕ, suc, _+_, _-_, _^_, _≤_, _<_}
+use mathlib.Core.Path.{_≡_, sym, ap, _∙_}
+use mathlib.Core.List.{List}
+use native.Mathlib.Numerals.{add-one}
+use native.Mathlib.Omega.{arith}
+use lib.ListN.{drop, getD}
+use Rattle.least.proofs.Iterate.{Mono, Unsolved, step-unsolved}
+use Rattle.supply.proofs.SupplyLaws.{reach}
+use Rattle.task_set.specs.declared.Task.{Task}
+use Rattle.task_set.specs.Tasks.{demandIn}
+use Rattle.task_set.specs.Blocking.{needOf}
+use Rattle.task_set.specs.ByColumn.{timesOf, FineTime}
+use Rattle.task_set.proofs.Demand.{Separated, separated-drop}
+use Rattle.task_set.proofs.Times.{times-separated}
+use Rattle.budget.specs.Code.{dueTask}
+use Rattle.budget.proofs.Iteration.{ticks, reach-unique, need-some, ticks-mono, start-unmet, time-past, time-over, time-met}
+use Rattle.budget.proofs.passing_time.Statement.{statement}
+use Rattle.budget.proofs.passing_time.Tie as tie
+
+-- the tasks above the place i
+abbrev above : List ℕ → List ℕ → ℕ → ℕ → List Task
+above separations costs n i = drop (suc i) (timesOf separations costs n)
+
+abbrev Inv-loop : tie.InvT-loop
+Inv-loop separations costs n i deadline period b q start own t₀ t = (1 ≤ t) × Unsolved (ticks period q b (dueTask costs i deadline) (above separations costs n i)) t
+
+abbrev μ-loop : tie.MeasureT-loop
+μ-loop separations costs n i deadline period b q start own t₀ t = deadline + 1 - t
+
+-- the task and those above it
+abbrev task : tie.Start Inv-loop μ-loop → Task
+task s = dueTask (s .args .costs .now) (s .args .i) (s .args .deadline)
+
+abbrev higher : tie.Start Inv-loop μ-loop → List Task
+higher s = above (s .args .separations .now) (s .args .costs .now) (s .args .n) (s .args .i)
+
+fine : (s : tie.Start Inv-loop μ-loop) → FineTime (getD (s .args .separations .now) (s .args .i) 0) (getD (s .args .costs .now) (s .args .i) 0)
+fine s = s .pre .0 .each (s .args .i) (s .pre .1)
+
+apart : (s : tie.Start Inv-loop μ-loop) → Separated (higher s)
+apart s = separated-drop (suc (s .args .i)) (times-separated (s .args .separations .now) (s .args .costs .now) (s .args .n) (s .pre .0))
+
+-- what is needed at t
+abbrev need : tie.Start Inv-loop μ-loop → ℕ → ℕ
+need s t = needOf (s .args .b) (task s) (higher s) t
+
+some : (s : tie.Start Inv-loop μ-loop) (t : ℕ) → 1 ≤ need s t
+some s t = need-some (s .args .period) (s .args .q) (s .args .b) (task s) (higher s) (apart s) (fine s .cost-some) (s .pre .5) (s .pre .6) t
+
+mul-own : tie.Need-mul-own Inv-loop μ-loop
+mul-own c = omega (arith, c .pre .0 .few)
+
+element-copy-out-own : tie.Need-element-copy-out-own Inv-loop μ-loop
+element-copy-out-own c = omega (arith, c .pre .0 .few)
+
+add-own : tie.Need-add-own Inv-loop μ-loop
+add-own c = omega (arith, fine (c .before))
+
+loop-holds : tie.Need-loop-holds Inv-loop μ-loop
+loop-holds c =
+    let s = c .before in
+    (s .pre .7, start-unmet (s .args .period) (s .args .q) (s .args .b) (task s) (higher s) (apart s) (fine s .cost-some) (s .pre .5) (s .pre .6) (s .args .start) (s .pre .8))
+
+add-demand-above : tie.Need-add-demand-above Inv-loop μ-loop
+add-demand-above c = omega (arith, c .before .before .before .pre .0 .few)
+
+demand-above-requires : tie.Need-demand-above-requires Inv-loop μ-loop
+demand-above-requires c κs = (c .before .before .before .pre .0, omega arith, omega arith)
+
+add-need : tie.Need-add-need Inv-loop μ-loop
+add-need c = omega (arith, c .demand-above .ensures .small, fine (c .before .before .before .before))
+
+-- what the code computes is the need at t
+is : (c : tie.After-demand-above Inv-loop μ-loop) →
+    let s = c .before .before .before .before in
+    getD (s .args .costs .now) (s .args .i) 0 + s .args .b + c .demand-above .result ≡ need s (c .before .before .loop .t)
+unfolding needOf
+is c =
+    let s = c .before .before .before .before in
+    let t = c .before .before .loop .t in
+    omega (arith, c .demand-above .ensures .value ∙ ap (λ (k : ℕ). demandIn (drop k (timesOf (s .args .separations .now) (s .args .costs .now) (s .args .n))) t) (add-one (s .args .i)))
+
+returns : tie.Need-returns Inv-loop μ-loop
+returns c =
+    let s = c .before .before .before .before .before in
+    let at = c .before .before .before .loop in
+    sym (time-over (s .args .period) (s .args .q) (s .args .b) (task s) (higher s) (apart s) (fine s .cost-some) (s .pre .5) (s .pre .6) (at .t) (at .inv .1) (omega (arith, is (c .before), c .if1 .taken)))
+
+reach-at-requires : tie.Need-reach-at-requires Inv-loop μ-loop
+reach-at-requires c κs =
+    let s = c .before .before .before .before .before in
+    omega (arith, is (c .before), some s (c .before .before .before .loop .t))
+
+-- and then its ticks
+then : (c : tie.After-reach-at Inv-loop μ-loop) →
+    let s = c .before .before .before .before .before .before in
+    c .reach-at .result ≡ ticks (s .args .period) (s .args .q) (s .args .b) (task s) (higher s) (c .before .before .before .before .loop .t)
+then c =
+    let s = c .before .before .before .before .before .before in
+    reach-unique (s .args .period) (s .args .q) _ (c .reach-at .result) (s .pre .5) (s .pre .6) (rw (is (c .before .before)) (some s (c .before .before .before .before .loop .t))) (c .reach-at .ensures)
+    ∙ ap (reach (s .args .period) (s .args .q)) (is (c .before .before))
+
+returns-2 : tie.Need-returns-2 Inv-loop μ-loop
+returns-2 c =
+    let s = c .before .before .before .before .before .before .before in
+    let at = c .before .before .before .before .before .loop in
+    sym (time-met (s .args .period) (s .args .q) (s .args .b) (task s) (higher s) (apart s) (fine s .cost-some) (s .pre .5) (s .pre .6) (at .t) (at .inv .1) (at .inv .0) (omega arith) (omega (arith, then (c .before))))
+
+loop-less : tie.Need-loop-less Inv-loop μ-loop
+loop-less c = omega arith
+
+loop-again : tie.Need-loop-again Inv-loop μ-loop
+loop-again c =
+    let s = c .before .before .before .before .before .before .before in
+    let at = c .before .before .before .before .before .loop in
+    let mono = ticks-mono (s .args .period) (s .args .q) (s .args .b) (task s) (higher s) (apart s) (fine s .cost-some) (s .pre .5) (s .pre .6) in
+    (omega arith, step-unsolved _ (at .t) _ mono (at .inv .1) (omega (arith, then (c .before))))
+
+returns-3 : tie.Need-returns-3 Inv-loop μ-loop
+returns-3 c =
+    let s = c .before .before .before in
+    sym (time-past (s .args .period) (s .args .q) (s .args .b) (task s) (higher s) (apart s) (fine s .cost-some) (s .pre .5) (s .pre .6) (c .before .loop .t) (c .before .loop .inv .1) (c .loop-test .left))
+
+pub passing-time-spec : {M : Type 1} → statement M
+passing-time-spec =
+    tie.close
+    (tie.spec
+    Inv-loop
+    μ-loop
+    mul-own
+    element-copy-out-own
+    add-own
+    loop-holds
+    add-demand-above
+    demand-above-requires
+    add-need
+    returns
+    reach-at-requires
+    returns-2
+    loop-less
+    loop-again
+    returns-3)
