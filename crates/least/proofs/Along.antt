@@ -1,9 +1,13 @@
 -- Laws of `everyAlong`: it passes just if the test passes at each way to part the list in what stands before, an element, and what stands behind.
 -- Assumes nothing.
-use mathlib.Core.Path.{_≡_, refl, sym, ap, _∙_}
+use Prim.Native.Nat.{ℕ, suc, _<_}
+use native.Mathlib.Omega.{arith}
+use mathlib.Core.Path.{_≡_, refl, sym, ap, _∙_, subst}
 use mathlib.Core.Bool.{Bool, true, false, false≢true}
 use mathlib.Core.List.{List, [], _∷_, _++_, reverse, reverseAux, reverse-reverse}
 use mathlib.Core.Logic.{_↔_}
+use lib.ListN.{length, take, drop, getD, length-append}
+use lib.Seq.{split-at, take-append-seam, getD-append-seam}
 use Rattle.least.specs.Lists.{everyBehind, everyAlong}
 
 module _ {A : Type 0} where
@@ -14,6 +18,10 @@ module _ {A : Type 0} where
   -- the same of a whole list: `lower` stands before x, nearest first
   abbrev pub PassesAlong : (List A → A → List A → Bool) → List A → Type 0
   PassesAlong test xs = (lower : List A) (x : A) (higher : List A) → reverse lower ++ (x ∷ higher) ≡ xs → test lower x higher ≡ true
+
+  drop-suc-seam : (front : List A) (x : A) (higher : List A) → drop (suc (length front)) (front ++ (x ∷ higher)) ≡ higher
+  drop-suc-seam [] x higher = refl
+  drop-suc-seam (y ∷ front) x higher = drop-suc-seam front x higher
 
 module _ {A : Type 0} (test : List A → A → List A → Bool) where
   behind-passed : (before : List A) (x : A) (xs : List A) → test before x xs ≡ true → everyBehind test before (x ∷ xs) ≡ everyBehind test (x ∷ before) xs
@@ -53,3 +61,22 @@ module _ {A : Type 0} (test : List A → A → List A → Bool) where
 
       from : PassesAlong test xs → everyAlong test xs ≡ true
       from h = behind-true xs [] (λ front x higher e. h (reverse front) x higher (ap (λ (l : List A). l ++ (x ∷ higher)) (reverse-reverse front) ∙ e))
+
+  -- the same by places
+  abbrev pub PassesPlaces : A → List A → Type 0
+  PassesPlaces d xs = (k : ℕ) → k < length xs → test (reverse (take k xs)) (getD xs k d) (drop (suc k) xs) ≡ true
+
+  places-seam : (d : A) (front : List A) (x : A) (higher : List A) → PassesPlaces d (front ++ (x ∷ higher)) → test (reverse front) x higher ≡ true
+  places-seam d front x higher h =
+      let t = h (length front) (omega (arith, length-append front (x ∷ higher))) in
+      rw (take-append-seam front (x ∷ higher), getD-append-seam front x higher d, drop-suc-seam front x higher) at t
+
+  pub along-places : (d : A) (xs : List A) → (everyAlong test xs ≡ true) ↔ PassesPlaces d xs
+  along-places d xs = (to, from)
+    where
+      to : everyAlong test xs ≡ true → PassesPlaces d xs
+      to q k h =
+          along-iff xs .0 q (reverse (take k xs)) (getD xs k d) (drop (suc k) xs) (ap (λ (l : List A). l ++ (getD xs k d ∷ drop (suc k) xs)) (reverse-reverse (take k xs)) ∙ sym (split-at xs k d h))
+
+      from : PassesPlaces d xs → everyAlong test xs ≡ true
+      from h = along-iff xs .1 (λ lower x higher e. ap (λ (l : List A). test l x higher) (sym (reverse-reverse lower)) ∙ places-seam d (reverse lower) x higher (subst (PassesPlaces d) (sym e) h))

@@ -1,0 +1,41 @@
+-- The local test by places: a budget passes just if it passes for the task at each place, with its blocking and with the tasks above it.
+--   taskPassesAt P ts m σ Q k == the task at the place k of ts passes with Q under the setting σ
+-- Assumes nothing.
+use Prim.Native.Nat.{ℕ, suc, _+_, _<_}
+use native.Mathlib.Omega.{arith}
+use mathlib.Core.Path.{_≡_, refl, sym, ap, _∙_, fun-ext}
+use mathlib.Core.Bool.{Bool, true, false, false≢true}
+use mathlib.Core.List.{List, reverse}
+use mathlib.Core.Logic.{_↔_}
+use lib.Dec.{leb}
+use lib.ListN.{length, take, drop, getD}
+use Rattle.least.specs.Search.{anyUpTo}
+use Rattle.least.proofs.Along.{along-places}
+use Rattle.supply.specs.Supply.{supplyOf}
+use Rattle.task_set.specs.declared.Task.{Task}
+use Rattle.task_set.specs.Tasks.{demandIn}
+use Rattle.task_set.specs.Blocking.{Setting, blockingOf, needOf}
+use Rattle.task_set.specs.Fine.{blankTask}
+use Rattle.budget.specs.Budget.{taskPasses, passes}
+
+unfoldable pub taskPassesAt : ℕ → List Task → ℕ → Setting → ℕ → ℕ → Bool
+taskPassesAt P ts m σ Q k = taskPasses P Q (blockingOf m σ (reverse (take k ts))) (getD ts k blankTask) (drop (suc k) ts)
+
+module _ (P : ℕ) (ts : List Task) (m : ℕ) (σ : Setting) (Q : ℕ) where
+  pub passes-places : (passes P ts m σ Q ≡ true) ↔ ((k : ℕ) → k < length ts → taskPassesAt P ts m σ Q k ≡ true)
+  unfolding passes taskPassesAt
+  passes-places = along-places _ blankTask ts
+
+  -- one task that fails is enough
+  pub fails-place : (k : ℕ) → k < length ts → taskPassesAt P ts m σ Q k ≡ false → passes P ts m σ Q ≡ false
+  fails-place k h f = go (passes P ts m σ Q) refl
+    where
+      go : (b : Bool) → passes P ts m σ Q ≡ b → passes P ts m σ Q ≡ false
+      go true t = absurd (false≢true (sym f ∙ passes-places .0 t k h))
+      go false t = t
+
+-- two tasks with the same C and the same deadline, below tasks that ask for the same, pass alike
+pub task-passes-same : (P Q b : ℕ) (task other : Task) (higher others : List Task) → task .cost ≡ other .cost → task .deadline ≡ other .deadline → ((w : ℕ) → demandIn higher w ≡ demandIn others w) → taskPasses P Q b task higher ≡ taskPasses P Q b other others
+unfolding taskPasses needOf
+task-passes-same P Q b task other higher others c d same =
+    rw (c, d) (ap (λ (demand : ℕ → ℕ). anyUpTo (λ t. leb (other .cost + demand t + b) (supplyOf P Q t)) (other .deadline)) (fun-ext same))
