@@ -44,7 +44,7 @@ module _ (a b : ℕ) where
   earlier-both h k = rw (le-leb 1 a h, le-leb 1 b k) refl
 
 -- b is a deadline
-pub earlier-earlier : (a b c : ℕ) → 1 ≤ b → earlier (earlier a b) c ≡ earlier a (earlier b c)
+earlier-earlier : (a b c : ℕ) → 1 ≤ b → earlier (earlier a b) c ≡ earlier a (earlier b c)
 earlier-earlier a b c h = go (decLe 1 a) (decLe 1 c)
   where
     go : Dec (1 ≤ a) → Dec (1 ≤ c) → earlier (earlier a b) c ≡ earlier a (earlier b c)
@@ -53,7 +53,7 @@ earlier-earlier a b c h = go (decLe 1 a) (decLe 1 c)
     go (yes k) (yes l) =
         rw (earlier-both a b k h, earlier-both b c h l, earlier-both (min a b) c (omega arith) l, earlier-both a (min b c) k (omega arith)) (omega arith)
 
-pub smallest-earlier : (x : ℕ) (xs : List ℕ) → 1 ≤ x → ((y : ℕ) → List·Memᴰ y xs → 1 ≤ y) → smallest (x ∷ xs) ≡ earlier x (smallest xs)
+smallest-earlier : (x : ℕ) (xs : List ℕ) → 1 ≤ x → ((y : ℕ) → List·Memᴰ y xs → 1 ≤ y) → smallest (x ∷ xs) ≡ earlier x (smallest xs)
 unfolding smallest
 smallest-earlier x [] h each = sym (earlier-only x 0 (omega arith))
 smallest-earlier x (y ∷ ys) h each = sym (earlier-both x (smallest (y ∷ ys)) h (each _ (smallest-member (y ∷ ys) (List·Memᴰ·head refl))))
@@ -75,24 +75,24 @@ same-lock a b x y z = λ i. record { lowest = x i; longest = y i; deadline = z i
 abbrev Due : List Task → Type 0
 Due ts = (t : Task) → List·Memᴰ t ts → 1 ≤ t .deadline
 
--- the numbers of lock l over one task more, at the place k
-module _ (l k : ℕ) (t : Task) (ts : List Task) where
-  pub longest-next : greatestHeld l (t ∷ ts) ≡ max (heldFor l t) (greatestHeld l ts)
+-- the numbers of lock l over one task more
+module _ (l : ℕ) (t : Task) (ts : List Task) where
+  longest-next : greatestHeld l (t ∷ ts) ≡ max (heldFor l t) (greatestHeld l ts)
   unfolding greatestHeld greatest
   longest-next = refl
 
-  pub lowest-unused : heldFor l t < 1 → numbersFrom k (uses l) (t ∷ ts) ≡ numbersFrom (suc k) (uses l) ts
-  lowest-unused h = numbers-fail (uses l) k t ts (lt-leb 1 (heldFor l t) h)
+  lowest-unused : (k : ℕ) → heldFor l t < 1 → numbersFrom k (uses l) (t ∷ ts) ≡ numbersFrom (suc k) (uses l) ts
+  lowest-unused k h = numbers-fail (uses l) k t ts (lt-leb 1 (heldFor l t) h)
 
-  pub lowest-used : 1 ≤ heldFor l t → greatest (numbersFrom k (uses l) (t ∷ ts)) ≡ max k (greatest (numbersFrom (suc k) (uses l) ts))
+  lowest-used : (k : ℕ) → 1 ≤ heldFor l t → greatest (numbersFrom k (uses l) (t ∷ ts)) ≡ max k (greatest (numbersFrom (suc k) (uses l) ts))
   unfolding greatest
-  lowest-used h = rw (numbers-pass (uses l) k t ts (le-leb 1 (heldFor l t) h)) refl
+  lowest-used k h = rw (numbers-pass (uses l) k t ts (le-leb 1 (heldFor l t) h)) refl
 
-  pub deadline-unused : heldFor l t < 1 → smallestDeadline l (t ∷ ts) ≡ smallestDeadline l ts
+  deadline-unused : heldFor l t < 1 → smallestDeadline l (t ∷ ts) ≡ smallestDeadline l ts
   unfolding smallestDeadline
   deadline-unused h = rw (those-fail (uses l) t ts (lt-leb 1 (heldFor l t) h)) refl
 
-  pub deadline-used : Due (t ∷ ts) → 1 ≤ heldFor l t → smallestDeadline l (t ∷ ts) ≡ earlier (t .deadline) (smallestDeadline l ts)
+  deadline-used : Due (t ∷ ts) → 1 ≤ heldFor l t → smallestDeadline l (t ∷ ts) ≡ earlier (t .deadline) (smallestDeadline l ts)
   unfolding smallestDeadline
   deadline-used due h =
       rw (those-pass (uses l) t ts (le-leb 1 (heldFor l t) h)) (smallest-earlier (t .deadline) _ (due t (List·Memᴰ·head refl)) each)
@@ -123,25 +123,25 @@ module _ (l : ℕ) (ts : List Task) where
       due-here u m = due u (drop-member k ts (rw e m))
 
       longer : greatestHeld l (drop k ts) ≡ max (heldFor l t) (greatestHeld l rest)
-      longer = ap (greatestHeld l) e ∙ longest-next l k t rest
+      longer = ap (greatestHeld l) e ∙ longest-next l t rest
 
       go : Dec (1 ≤ heldFor l t) → Counted l ts (suc k) (withUser lock (suc k) (heldFor l t) (t .deadline))
       go (yes h) = rw (with-some lock (suc k) (heldFor l t) (t .deadline) h) (record {
         passed = omega arith;
-        lowest = omega (arith, ap (λ us. greatest (numbersFrom (suc k) (uses l) us)) e, lowest-used l (suc k) t rest h, done .lowest, done .passed);
+        lowest = omega (arith, ap (λ us. greatest (numbersFrom (suc k) (uses l) us)) e, lowest-used l t rest (suc k) h, done .lowest, done .passed);
         longest = omega (arith, longer, done .longest);
         deadline =
             earlier-earlier (lock .deadline) (t .deadline) (smallestDeadline l rest) (due-here t (List·Memᴰ·head refl))
-            ∙ ap (earlier (lock .deadline)) (sym (deadline-used l k t rest due-here h) ∙ ap (smallestDeadline l) (sym e))
+            ∙ ap (earlier (lock .deadline)) (sym (deadline-used l t rest due-here h) ∙ ap (smallestDeadline l) (sym e))
             ∙ done .deadline;
       })
       go (no h) =
           let unused : heldFor l t < 1 = omega arith in
           rw (with-none lock (suc k) (heldFor l t) (t .deadline) unused) (record {
             passed = omega (arith, done .passed);
-            lowest = omega (arith, ap (λ us. greatest (numbersFrom (suc k) (uses l) us)) e, ap greatest (lowest-unused l (suc k) t rest unused), done .lowest);
+            lowest = omega (arith, ap (λ us. greatest (numbersFrom (suc k) (uses l) us)) e, ap greatest (lowest-unused l t rest (suc k) unused), done .lowest);
             longest = omega (arith, longer, done .longest);
-            deadline = ap (earlier (lock .deadline)) (sym (deadline-unused l k t rest unused) ∙ ap (smallestDeadline l) (sym e)) ∙ done .deadline;
+            deadline = ap (earlier (lock .deadline)) (sym (deadline-unused l t rest unused) ∙ ap (smallestDeadline l) (sym e)) ∙ done .deadline;
           })
 
   pub counted-end : (k : ℕ) (lock : Lock) → drop k ts ≡ [] → Counted l ts k lock → lock ≡ lockOf l ts
