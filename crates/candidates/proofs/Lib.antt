@@ -5,3 +5,11 @@ pub mod Candidates
 pub mod Shown
 pub mod Walk
 pub mod Count
+pub mod Raising
+pub mod Known
+pub mod Settle
+pub mod Pairs
+pub mod Budgets
+pub mod Lowest
+pub mod Turn
+pub mod Searching

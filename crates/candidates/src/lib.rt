@@ -1,4 +1,17 @@
 // The candidates of a part and its kept list.
+use holding::Ceiling;
+use least::Least;
+use task_set::Part;
+ghost use mathlib.Core.Path.{_≡_};
+ghost use Prim.Native.Nat.{ℕ, suc, _^_, _≤_, _<_};
+ghost use lib.ListN.{getD, drop};
+ghost use Rattle.task_set.specs.Tasks.{tasksOf};
+ghost use Rattle.task_set.specs.Fine.{FinePart};
+ghost use Rattle.task_set.specs.ByColumn.{timesOf, FineTimes};
+ghost use Rattle.task_set.specs.ByLock.{blockingBy};
+ghost use Rattle.budget.specs.Code.{dueTask};
+ghost use Rattle.candidates.specs.Candidates.{keptAnswer, keptOf};
+ghost use Rattle.candidates.specs.Code.{nextCeiling, ceilingAt, FineLocks, RaisedIs, budgetAgain, budgetStep, BudgetIs, pairsOf, sumAt, LighterIs};
 
 // A candidate: a least passing budget Q with its setting's holding time X.
 pub struct Pair {
@@ -10,4 +23,280 @@ pub struct Pair {
 pub struct Kept {
     pub pairs: [Pair; 121],
     pub count: usize,
+}
+
+// No time, deadline or blocking is greater. UNKNOWN stands where there is none yet.
+const MOST: u64 = 1048576;
+
+const UNKNOWN: u64 = 1048577;
+
+// The ceiling of a lock at x, with its holding time, from those at a greater x.
+fn next_ceiling(
+    separations: &[u64; 16],
+    costs: &[u64; 16],
+    n: usize,
+    g: u64,
+    limit: u64,
+    ceiling: usize,
+    time: u64,
+    x: u64,
+) -> Ceiling
+    requires { ⌜ FineTimes (now separations) (now costs) n × (1 ≤ g) × (g ≤ 2 ^ 20) × (limit ≤ 2 ^ 20) × (ceiling ≤ 16) ⌝ }
+    ensures { λ r. ⌜ r ≡ nextCeiling (timesOf (now (separations .entry)) (now (costs .entry)) n) g limit ceiling time x ⌝ }
+{
+    if time <= x {
+        return Ceiling::Held(ceiling, time);
+    }
+    if time <= MOST {
+        return holding::lowest_within(separations, costs, n, g, limit, ceiling + 1, x);
+    }
+    holding::lowest_within(separations, costs, n, g, limit, ceiling, x)
+}
+
+// The ceilings of all locks with their holding times, and X; none where some lock has none.
+pub struct Raised {
+    pub found: bool,
+    pub ceilings: [usize; 8],
+    pub times: [u64; 8],
+    pub holding: u64,
+}
+
+// The lowest ceilings that are held for at most x, from those at a greater x.
+fn raise(
+    separations: &[u64; 16],
+    costs: &[u64; 16],
+    n: usize,
+    longest: &[u64; 8],
+    limits: &[u64; 8],
+    m: usize,
+    ceilings: [usize; 8],
+    times: [u64; 8],
+    x: u64,
+) -> Raised
+    requires { ⌜ FineTimes (now separations) (now costs) n × FineLocks (now longest) (now limits) ceilings m ⌝ }
+    ensures { λ r. ⌜ RaisedIs (ceilingAt (timesOf (now (separations .entry)) (now (costs .entry)) n) (now (longest .entry)) (now (limits .entry)) ceilings times x) m r ⌝ }
+{
+    let mut raised = ceilings;
+    let mut held = times;
+    let mut holding = 0;
+    let mut j = 0;
+    while j < m {
+        match next_ceiling(
+            separations,
+            costs,
+            n,
+            longest[j],
+            limits[j],
+            raised[j],
+            held[j],
+            x,
+        ) {
+            Ceiling::Held(r, w) => {
+                raised[j] = r;
+                held[j] = w;
+                holding = least::larger(holding, w);
+                j += 1;
+            }
+            Ceiling::NotHeld => {
+                return Raised {
+                    found: false,
+                    ceilings,
+                    times,
+                    holding: 0,
+                };
+            }
+        }
+    }
+    Raised {
+        found: true,
+        ceilings: raised,
+        times: held,
+        holding,
+    }
+}
+
+// The least budget from q on of the task at the place i with the blocking b; it passes with q where this blocking was tested before.
+fn task_budget(
+    separations: &[u64; 16],
+    costs: &[u64; 16],
+    n: usize,
+    i: usize,
+    deadline: u64,
+    period: u64,
+    b: u64,
+    tested: u64,
+    q: u64,
+) -> Least
+    requires { ⌜ FineTimes (now separations) (now costs) n × (i < n) × (deadline ≤ 2 ^ 20) × (period ≤ 2 ^ 20) × (b ≤ 2 ^ 20) × (1 ≤ q) × (q ≤ period) ⌝ }
+    ensures { λ r. ⌜ r ≡ budgetAgain period b tested (dueTask (now (costs .entry)) i deadline) (drop (suc i) (timesOf (now (separations .entry)) (now (costs .entry)) n)) q ⌝ }
+{
+    if b == tested {
+        return Least::At(q);
+    }
+    budget::least_budget(separations, costs, n, i, deadline, period, b, q)
+}
+
+// The least budget with which all tasks pass, and the blockings with which they do; none where there is no such budget.
+pub struct Budgeted {
+    pub found: bool,
+    pub blocked: [u64; 16],
+    pub budget: u64,
+}
+
+// The least budget from q on under these ceilings, highest task first.
+fn budget_under(
+    separations: &[u64; 16],
+    costs: &[u64; 16],
+    deadlines: &[u64; 16],
+    n: usize,
+    period: u64,
+    below: &[u64; 128],
+    ceilings: &[usize; 8],
+    m: usize,
+    tested: [u64; 16],
+    q: u64,
+) -> Budgeted
+    requires { ⌜ FineTimes (now separations) (now costs) n × ((k : ℕ) → k < n → getD (now deadlines) k 0 ≤ 2 ^ 20) × (period ≤ 2 ^ 20) × (m ≤ 8) × ((k : ℕ) → k < n → blockingBy (now below) (now ceilings) m k ≤ 2 ^ 20) × (1 ≤ q) × (q ≤ period) ⌝ }
+    ensures { λ r. ⌜ BudgetIs (budgetStep (timesOf (now (separations .entry)) (now (costs .entry)) n) (now (costs .entry)) (now (deadlines .entry)) period (blockingBy (now (below .entry)) (now (ceilings .entry)) m) tested) (blockingBy (now (below .entry)) (now (ceilings .entry)) m) n q r ⌝ }
+{
+    let mut blocked = tested;
+    let mut budget = q;
+    let mut i = n;
+    while 0 < i {
+        let k = i - 1;
+        let b = task_set::blocking_at(below, ceilings, m, k);
+        match task_budget(
+            separations,
+            costs,
+            n,
+            k,
+            deadlines[k],
+            period,
+            b,
+            blocked[k],
+            budget,
+        ) {
+            Least::At(least) => {
+                blocked[k] = b;
+                budget = least;
+                i = k;
+            }
+            Least::Nothing => {
+                return Budgeted {
+                    found: false,
+                    blocked: tested,
+                    budget: 0,
+                };
+            }
+        }
+    }
+    Budgeted {
+        found: true,
+        blocked,
+        budget,
+    }
+}
+
+// How many pairs are left once those at the end with a sum Q + X of at least s are dropped.
+fn lighter_count(budgets: &[u64; 121], holdings: &[u64; 121], count: usize, s: u64) -> usize
+    requires { ⌜ (count ≤ 121) × ((k : ℕ) → k < count → sumAt (now budgets) (now holdings) k ≤ 2 ^ 21) ⌝ }
+    ensures { λ r. ⌜ LighterIs (now (budgets .entry)) (now (holdings .entry)) count s r ⌝ }
+{
+    let mut left = count;
+    while 0 < left {
+        let k = left - 1;
+        if budgets[k] + holdings[k] < s {
+            return left;
+        }
+        left = k;
+    }
+    0
+}
+
+// The first pairs of two arrays, as a list.
+fn kept_list(budgets: &[u64; 121], holdings: &[u64; 121], count: usize) -> Kept
+    requires { ⌜ count ≤ 121 ⌝ }
+    ensures { λ r. ⌜ r ≡ keptAnswer (pairsOf (now (budgets .entry)) (now (holdings .entry)) count) ⌝ }
+{
+    let mut pairs = [Pair {
+        budget: 0,
+        holding: 0,
+    }; 121];
+    let mut i = 0;
+    while i < count {
+        pairs[i] = Pair {
+            budget: budgets[i],
+            holding: holdings[i],
+        };
+        i += 1;
+    }
+    Kept { pairs, count }
+}
+
+// The kept list of a part. At x the lowest ceilings that are held for at most x need no greater budget than any other such setting; their X is the greatest
+// there is up to x, and the search goes on from X − 1.
+pub fn kept_of(part: Part) -> Kept
+    requires { ⌜ FinePart part × (1 ≤ part .period) × (part .period ≤ 2 ^ 20) ⌝ }
+    ensures { λ r. ⌜ r ≡ keptOf (part .period) (tasksOf part) (part .locks) ⌝ }
+{
+    let columns = task_set::columns_of(part);
+    let separations = columns.separations;
+    let costs = columns.costs;
+    let deadlines = columns.deadlines;
+    let locks = task_set::locks_of(part);
+    let longest = locks.longest;
+    let limits = locks.deadlines;
+    let below = task_set::longest_below(part);
+    let mut ceilings = locks.lowest;
+    let mut times = [UNKNOWN; 8];
+    let mut blocked = [UNKNOWN; 16];
+    let mut budget = 1;
+    let mut budgets = [0u64; 121];
+    let mut holdings = [0u64; 121];
+    let mut count = 0;
+    let mut x = MOST;
+    loop {
+        let raised = raise(
+            &separations,
+            &costs,
+            part.count,
+            &longest,
+            &limits,
+            part.locks,
+            ceilings,
+            times,
+            x,
+        );
+        if !raised.found {
+            return kept_list(&budgets, &holdings, count);
+        }
+        ceilings = raised.ceilings;
+        times = raised.times;
+        let holding = raised.holding;
+        let passing = budget_under(
+            &separations,
+            &costs,
+            &deadlines,
+            part.count,
+            part.period,
+            &below,
+            &ceilings,
+            part.locks,
+            blocked,
+            budget,
+        );
+        if !passing.found {
+            return kept_list(&budgets, &holdings, count);
+        }
+        blocked = passing.blocked;
+        budget = passing.budget;
+        let end = lighter_count(&budgets, &holdings, count, budget + holding);
+        budgets[end] = budget;
+        holdings[end] = holding;
+        count = end + 1;
+        if holding == 0 {
+            return kept_list(&budgets, &holdings, count);
+        }
+        x = holding - 1;
+    }
 }

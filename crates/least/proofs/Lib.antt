@@ -14,3 +14,4 @@ pub mod Iterate
 pub mod Fill
 pub mod Numbers
 pub mod Members
+pub mod Count

@@ -1,6 +1,6 @@
 -- Laws of the bounded searches: what a search finds is known, and a search is known by what it finds. The laws at the end say it in the paper's words.
 -- Assumes nothing.
-use Prim.Native.Nat.{ℕ, zero, suc, _+_, _≤_, _<_}
+use Prim.Native.Nat.{ℕ, zero, suc, _+_, _-_, _≤_, _<_}
 use native.Mathlib.Nat.{le-refl, le-of-lt, eq-or-lt-of-le}
 use native.Mathlib.Omega.{arith}
 use native.Mathlib.Decide.{decLe}
@@ -83,6 +83,23 @@ module _ (test : ℕ → Bool) where
           inl (d .0, record { from = le-of-lt (d .1 .from); below = omega (arith, d .1 .below); passes = d .1 .passes; before = sooner a (d .0) e (d .1 .before) }, passed n a e ∙ d .2)
       go (inr d) false e =
           inr ((λ v l h. sooner a (suc a + n) e (d .0) v l (omega arith)), passed n a e ∙ d .1)
+
+  -- numbers at the front that do not pass may be left out
+  pub least-skip : (n a b : ℕ) → a ≤ b → b ≤ a + n → NoneIn test a b → leastFrom test a n ≡ leastFrom test b (a + n - b)
+  least-skip n a b l h none = go (least-known (a + n - b) b)
+    where
+      before : (w : ℕ) → NoneIn test b w → (v : ℕ) → a ≤ v → v < w → test v ≡ false
+      before w later v p q = at (decLe b v)
+        where
+          at : Dec (b ≤ v) → test v ≡ false
+          at (yes r) = later v r q
+          at (no r) = none v p (omega arith)
+
+      go : Known test (a + n - b) b → leastFrom test a n ≡ leastFrom test b (a + n - b)
+      go (inl d) =
+          let k = d .1 in
+          least-at n a (d .0) (record { from = omega (arith, k .from); below = omega (arith, k .below); passes = k .passes; before = before (d .0) (k .before) }) ∙ sym (d .2)
+      go (inr d) = least-nothing n a (before (a + n) (λ v p q. d .0 v p (omega arith))) ∙ sym (d .1)
 
   any-hit : (n a : ℕ) → test a ≡ true → anyFrom test a (suc n) ≡ true
   unfolding anyFrom
@@ -182,7 +199,7 @@ module _ (test : ℕ → Bool) where
       go true t = absurd (omega (arith, l .first v p t))
       go false t = t
 
-  first-of : (w : ℕ) → NoneIn test 1 w → (v : ℕ) → 1 ≤ v → test v ≡ true → w ≤ v
+  pub first-of : (w : ℕ) → NoneIn test 1 w → (v : ℕ) → 1 ≤ v → test v ≡ true → w ≤ v
   first-of w none v p t = go (decLe w v)
     where
       go : Dec (w ≤ v) → w ≤ v

@@ -1,0 +1,172 @@
+-- One turn of the search for the kept list: at x, the ceilings shown for x, their X and their least budget; then on from X − 1.
+--   SearchAt p c x ceilings times blocked budget == what the arrays say when the search has come to x
+-- Assumes nothing.
+use Prim.Native.Nat.{ℕ, zero, suc, _+_, _-_, _^_, _≤_, _<_}
+use native.Mathlib.Nat.{le-refl, le-trans}
+use native.Mathlib.Omega.{arith}
+use mathlib.Core.Path.{_≡_, refl, sym, ap, _∙_}
+use mathlib.Core.Bool.{Bool, true, false}
+use mathlib.Core.Logic.{_⊎_, inl, inr}
+use mathlib.Core.List.{List, [], map, List·Memᴰ}
+use lib.ListN.{length, getD, replicate}
+use Rattle.least.specs.declared.Least.the-variants.{At, Nothing}
+use Rattle.least.specs.Lists.{greatest, countFrom}
+use Rattle.least.proofs.Search.{NoneIn, least-found}
+use Rattle.least.proofs.Lists.{map-same, count-from}
+use Rattle.task_set.specs.declared.Task.{Task}
+use Rattle.task_set.specs.declared.Part.{Part}
+use Rattle.task_set.specs.declared.Columns.{Columns}
+use Rattle.task_set.specs.declared.Locks.{Locks}
+use Rattle.task_set.specs.Tasks.{lowestCeiling, tasksOf}
+use Rattle.task_set.specs.Blocking.{Setting}
+use Rattle.task_set.specs.Fine.{FinePart}
+use Rattle.task_set.specs.ByColumn.{timesOf, ColumnsAre}
+use Rattle.task_set.specs.ByLock.{LocksAre, LongestBelow, blockingBy, settingOf}
+use Rattle.task_set.proofs.Places.{tasks-length, tasks-place}
+use Rattle.task_set.proofs.ByLock.{lowest-some}
+use Rattle.holding.specs.Holding.{holdingTimeOf}
+use Rattle.budget.specs.Budget.{passes, leastBudget}
+use Rattle.budget.proofs.Passing.{budget-iff}
+use Rattle.budget.proofs.SettingsAgree.{passes-agree, leastBudget-agree}
+use Rattle.candidates.specs.declared.Pair.{Pair}
+use Rattle.candidates.specs.declared.Raised.{Raised}
+use Rattle.candidates.specs.declared.Budgeted.{Budgeted}
+use Rattle.candidates.specs.Candidates.{keptList, shownCeiling}
+use Rattle.candidates.specs.Statement.{Permitted, Candidate}
+use Rattle.candidates.specs.Code.{ceilingAt, heldTime, RaisedIs, budgetStep, BudgetIs}
+use Rattle.candidates.proofs.Shown.{deadlines-holding, shown-budget}
+use Rattle.candidates.proofs.Walk.{sumOf, pushed, WalkedFrom, Walked, walk-start, walk-push, walk-next, walk-missed, walk-no-budget}
+use Rattle.candidates.proofs.Count.{Used, walked-count, count-121}
+use Rattle.candidates.proofs.Known.{shownAt, shown-held, shown-missed}
+use Rattle.candidates.proofs.Settle.{AllShown, AllKnown, next-at, shown-permitted, shown-most, setting-agrees, holding-greatest}
+use Rattle.candidates.proofs.Lowest.{Tested, lowest-range, lowest-tested, lowest-found, lowest-missed}
+
+pub record SearchAt (p : Part) (c : Columns) (x : ℕ) (ceilings times blocked : List ℕ) (budget : ℕ) : Type 0 where
+  pub last : ℕ
+  pub later : x ≤ last
+  pub small : x ≤ 2 ^ 20
+  pub known : AllKnown (tasksOf p) (p .locks) last ceilings times
+  pub tested : Tested p c blocked budget
+  pub from : 1 ≤ budget
+  pub most : budget ≤ p .period
+  pub low : (σ : Setting) → Permitted (tasksOf p) (p .locks) σ → holdingTimeOf (tasksOf p) (p .locks) σ ≤ x → (Q : ℕ) → 1 ≤ Q → Q < budget → passes (p .period) (tasksOf p) (p .locks) σ Q ≡ false
+
+getD-replicate : (n k x : ℕ) → k < n → getD (replicate n x) k 0 ≡ x
+getD-replicate zero k x h = absurd (omega arith)
+getD-replicate (suc n) zero x h = refl
+getD-replicate (suc n) (suc k) x h = getD-replicate n k x (omega arith)
+
+-- no holding time of a part is greater than 2 ^ 20
+module _ (p : Part) (fine : FinePart p) where
+  pub holding-small : (σ : Setting) → Permitted (tasksOf p) (p .locks) σ → holdingTimeOf (tasksOf p) (p .locks) σ ≤ 2 ^ 20
+  holding-small = deadlines-holding (tasksOf p) (p .locks) (2 ^ 20) (λ t m. let h = tasks-place p fine m in let f = fine .each (h .0) (h .1) in omega (arith, ap (λ (x : Task). x .deadline) (h .2)))
+
+  pub walked-start : Walked (p .period) (tasksOf p) (p .locks) (2 ^ 20) []
+  walked-start = walk-start (p .period) (tasksOf p) (p .locks) (2 ^ 20) holding-small
+
+  pub candidate-small : (d : Pair) → Candidate (p .period) (tasksOf p) (p .locks) d → (d .budget ≤ p .period) × (d .holding ≤ 2 ^ 20)
+  candidate-small d q =
+      (budget-iff (p .period) (tasksOf p) (p .locks) (q .setting) (d .budget) .0 (q .budget) .1, omega (arith, q .holding, holding-small (q .setting) (q .allowed)))
+
+  used : Used (tasksOf p) (p .locks)
+  used = lowest-some p fine
+
+  pub walked-few : (e : ℕ) (cs : List Pair) → WalkedFrom (p .period) (tasksOf p) (p .locks) e cs → length cs ≤ 121
+  walked-few e cs w =
+      le-trans (walked-count (p .period) (tasksOf p) (p .locks) used e cs w) (count-121 (p .locks) (length (tasksOf p)) (fine .few-locks) (omega (arith, tasks-length p fine, fine .few)))
+
+module _ (p : Part) (fine : FinePart p) (c : Columns) (k : Locks) (locks : LocksAre p k) where
+  pub search-start : 1 ≤ p .period → (x : ℕ) → 2 ^ 20 < x → SearchAt p c (2 ^ 20) (k .lowest) (replicate 8 x) (replicate 16 x) 1
+  search-start o x h = record {
+    last = 2 ^ 20;
+    later = omega arith;
+    small = omega arith;
+    known = λ j l. inl (omega (arith, getD-replicate 8 j x (omega (arith, fine .few-locks))), locks .lowest j l);
+    tested = λ i l. inl (omega (arith, getD-replicate 16 i x (omega (arith, fine .few))));
+    from = omega arith;
+    most = o;
+    low = λ σ ok u Q a b. absurd (omega arith);
+  }
+
+module _ (p : Part) (fine : FinePart p) (c : Columns) (are : ColumnsAre p c) (k : Locks) (locks : LocksAre p k) (x : ℕ) (ceilings times blocked : List ℕ) (budget : ℕ) (s : SearchAt p c x ceilings times blocked budget) (r : Raised) (is : RaisedIs (ceilingAt (timesOf (c .separations) (c .costs) (p .count)) (k .longest) (k .deadlines) ceilings times x) (p .locks) r) where
+  -- what the code looked for is shown at x
+  next : (j : ℕ) → j < p .locks → ceilingAt (timesOf (c .separations) (c .costs) (p .count)) (k .longest) (k .deadlines) ceilings times x j ≡ shownAt (tasksOf p) x (suc j)
+  next = next-at p fine c are k locks x (s .last) ceilings times (s .later) (s .small) (s .known)
+
+  pub raise-missed : (cs : List Pair) → Walked (p .period) (tasksOf p) (p .locks) x cs → r .found ≡ false → cs ≡ keptList (p .period) (tasksOf p) (p .locks)
+  raise-missed cs w e =
+      let m = is .missed e in
+      walk-missed (p .period) (tasksOf p) (p .locks) x (suc (m .0)) cs w (omega arith) (omega (arith, m .1)) (shown-missed (tasksOf p) x (suc (m .0)) (sym (next (m .0) (m .1)) ∙ m .2))
+
+  module _ (yes : r .found ≡ true) where
+    shown : AllShown (tasksOf p) (p .locks) x (r .ceilings) (r .times)
+    shown j h = sym (next j h) ∙ is .each yes j h
+
+    pub raised-most : (j : ℕ) → j < p .locks → getD (r .ceilings) j 0 ≤ 16
+    raised-most j h =
+        let f = least-found _ _ _ (getD (r .ceilings) j 0) (shown-held (tasksOf p) x (suc j) _ _ (shown j h) .lowest) in
+        omega (arith, f .from, f .below, tasks-length p fine, fine .few)
+
+    holding-is : holdingTimeOf (tasksOf p) (p .locks) (shownCeiling (tasksOf p) x) ≡ r .holding
+    holding-is =
+        holding-greatest (tasksOf p) (p .locks) x (r .ceilings) (r .times) shown
+        ∙ ap greatest (map-same (λ j. heldTime (shownAt (tasksOf p) x (suc j))) _ (countFrom 0 (p .locks)) (λ j q. sym (ap heldTime (next j (omega (arith, count-from (p .locks) 0 j q .1))))))
+        ∙ sym (is .holding yes)
+
+    pub holding-most : r .holding ≤ x
+    holding-most = omega (arith, holding-is, shown-most (tasksOf p) (p .locks) x (r .ceilings) (r .times) shown)
+
+    permitted-shown : Permitted (tasksOf p) (p .locks) (shownCeiling (tasksOf p) x)
+    permitted-shown = shown-permitted (tasksOf p) (p .locks) x (r .ceilings) (r .times) shown
+
+    none-below : NoneIn (passes (p .period) (tasksOf p) (p .locks) (settingOf (r .ceilings))) 1 budget
+    none-below Q a b =
+        passes-agree (p .period) (tasksOf p) (p .locks) (settingOf (r .ceilings)) (shownCeiling (tasksOf p) x) (setting-agrees (tasksOf p) (p .locks) x (r .ceilings) (r .times) shown) Q
+        ∙ s .low (shownCeiling (tasksOf p) x) permitted-shown (shown-most (tasksOf p) (p .locks) x (r .ceilings) (r .times) shown) Q a b
+
+    least-agrees : leastBudget (p .period) (tasksOf p) (p .locks) (shownCeiling (tasksOf p) x) ≡ leastBudget (p .period) (tasksOf p) (p .locks) (settingOf (r .ceilings))
+    least-agrees =
+        sym (leastBudget-agree (p .period) (tasksOf p) (p .locks) (settingOf (r .ceilings)) (shownCeiling (tasksOf p) x) (setting-agrees (tasksOf p) (p .locks) x (r .ceilings) (r .times) shown))
+
+    module _ (table : List ℕ) (below : LongestBelow p table) (b : Budgeted) (has : BudgetIs (budgetStep (timesOf (c .separations) (c .costs) (p .count)) (c .costs) (c .deadlines) (p .period) (blockingBy table (r .ceilings) (p .locks)) blocked) (blockingBy table (r .ceilings) (p .locks)) (p .count) budget b) where
+      pub budget-missed : (cs : List Pair) → Walked (p .period) (tasksOf p) (p .locks) x cs → b .found ≡ false → cs ≡ keptList (p .period) (tasksOf p) (p .locks)
+      budget-missed cs w e =
+          walk-no-budget (p .period) (tasksOf p) (p .locks) x cs w (least-agrees ∙ lowest-missed p fine c are table below (r .ceilings) blocked budget (s .from) (s .most) (s .tested) none-below (has .missed e))
+
+      module _ (ok : b .found ≡ true) where
+        least : leastBudget (p .period) (tasksOf p) (p .locks) (shownCeiling (tasksOf p) x) ≡ At (b .budget)
+        least = least-agrees ∙ lowest-found p fine c are table below (r .ceilings) blocked budget (s .from) (s .most) (s .tested) none-below (b .budget) (has .value ok)
+
+        range : (budget ≤ b .budget) × (b .budget ≤ p .period)
+        range = lowest-range p fine c are table below (r .ceilings) blocked budget (s .from) (s .most) (s .tested) none-below (b .budget) (has .value ok)
+
+        pub budget-most : b .budget ≤ p .period
+        budget-most = range .1
+
+        pub turn-push : (cs : List Pair) → Walked (p .period) (tasksOf p) (p .locks) x cs → WalkedFrom (p .period) (tasksOf p) (p .locks) (r .holding) (pushed (b .budget) (r .holding) cs)
+        turn-push cs w = walk-push (p .period) (tasksOf p) (p .locks) x (b .budget) (r .holding) cs w permitted-shown holding-is holding-most least
+
+        pub turn-next : (cs : List Pair) → Walked (p .period) (tasksOf p) (p .locks) x cs → 1 ≤ r .holding → Walked (p .period) (tasksOf p) (p .locks) (r .holding - 1) (pushed (b .budget) (r .holding) cs)
+        turn-next cs w = walk-next (p .period) (tasksOf p) (p .locks) x (b .budget) (r .holding) cs w permitted-shown holding-is holding-most least
+
+        low-next : (y : ℕ) → y ≤ x → (σ : Setting) → Permitted (tasksOf p) (p .locks) σ → holdingTimeOf (tasksOf p) (p .locks) σ ≤ y → (Q : ℕ) → 1 ≤ Q → Q < b .budget → passes (p .period) (tasksOf p) (p .locks) σ Q ≡ false
+        low-next y h σ allowed u Q a l = go (passes (p .period) (tasksOf p) (p .locks) σ Q) refl
+          where
+            go : (t : Bool) → passes (p .period) (tasksOf p) (p .locks) σ Q ≡ t → passes (p .period) (tasksOf p) (p .locks) σ Q ≡ false
+            go false e = e
+            go true e =
+                let f = shown-budget (tasksOf p) (p .locks) x σ allowed (le-trans u h) (p .period) Q e a (omega (arith, range .1)) in
+                let same : f .0 ≡ b .budget = cc (f .1, least) in
+                absurd (omega (arith, f .2))
+
+        pub search-next : 1 ≤ r .holding → SearchAt p c (r .holding - 1) (r .ceilings) (r .times) (b .blocked) (b .budget)
+        search-next h = record {
+          last = x;
+          later = omega (arith, holding-most);
+          small = omega (arith, holding-most, s .small);
+          known = λ j l. inr (shown j l);
+          tested = lowest-tested p fine c are table below (r .ceilings) blocked budget (s .from) (s .most) (s .tested) none-below (b .budget) (b .blocked) (has .value ok) (has .tested ok);
+          from = omega (arith, range .0, s .from);
+          most = range .1;
+          low = low-next (r .holding - 1) (omega (arith, holding-most));
+        }

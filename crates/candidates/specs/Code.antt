@@ -1,0 +1,90 @@
+-- What the functions of this crate give. They search the kept list through falling x; arrays hold the numbers of locks, tasks and pairs by places, from 0.
+--   nextCeiling ts g limit c w x == the ceiling of a lock at x, with its holding time; c and w are those at a greater x, or w is past every limit and c is
+--                      the lock's lowest ceiling
+--   RaisedIs next m r  == r holds the ceilings and times `next` of m locks, and the greatest of the times; or one of the locks has none
+--   budgetAgain P b tested task higher q == the least budget from q on; a blocking that was tested before asks for no more
+--   budgetDown step k q == the least budget from q on after the steps of the places k − 1, .., 0
+--   BudgetIs step blocking n q r == r holds that budget of n places, and the blocking of each task, which is then tested
+--   pairsOf budgets holdings n == the first n pairs of two arrays
+--   LighterIs budgets holdings n s r == the first r of n pairs are left once those at the end with a sum of at least s are dropped
+-- Assumes nothing.
+use Prim.Native.Nat.{ℕ, zero, suc, _+_, _^_, _≤_, _<_}
+use mathlib.Core.Path.{_≡_}
+use mathlib.Core.Bool.{true, false, cond}
+use mathlib.Core.Logic.{_⊎_}
+use mathlib.Core.List.{List, map}
+use lib.Dec.{leb, eqb}
+use lib.ListN.{getD, drop}
+use Rattle.least.specs.declared.Least.{Least}
+use Rattle.least.specs.declared.Least.the-variants.{At, Nothing}
+use Rattle.least.specs.Lists.{greatest, countFrom}
+use Rattle.task_set.specs.declared.Task.{Task}
+use Rattle.task_set.specs.ByLock.{blockingBy}
+use Rattle.holding.specs.declared.Ceiling.{Ceiling}
+use Rattle.holding.specs.declared.Ceiling.the-variants.{Held, NotHeld}
+use Rattle.holding.specs.Code.{lowestHeld}
+use Rattle.budget.specs.Code.{dueTask, budgetFrom}
+use Rattle.candidates.specs.declared.Pair.{Pair}
+use Rattle.candidates.specs.declared.Raised.{Raised}
+use Rattle.candidates.specs.declared.Budgeted.{Budgeted}
+use Rattle.candidates.specs.Candidates.{pair}
+
+-- locks
+
+unfoldable pub nextCeiling : List Task → ℕ → ℕ → ℕ → ℕ → ℕ → Ceiling
+nextCeiling ts g limit c w x = cond (leb w x) (Held c w) (lowestHeld ts g limit x (cond (leb w (2 ^ 20)) (c + 1) c))
+
+-- the greatest c and the smallest deadline of each lock, and a ceiling for it
+pub record FineLocks (longest limits ceilings : List ℕ) (m : ℕ) : Type 0 where
+  pub few : m ≤ 8
+  pub longest-some : (j : ℕ) → j < m → 1 ≤ getD longest j 0
+  pub longest-most : (j : ℕ) → j < m → getD longest j 0 ≤ 2 ^ 20
+  pub limits-most : (j : ℕ) → j < m → getD limits j 0 ≤ 2 ^ 20
+  pub ceilings-most : (j : ℕ) → j < m → getD ceilings j 0 ≤ 16
+
+-- of the lock at the place j
+abbrev pub ceilingAt : List Task → List ℕ → List ℕ → List ℕ → List ℕ → ℕ → ℕ → Ceiling
+ceilingAt ts longest limits ceilings times x j = nextCeiling ts (getD longest j 0) (getD limits j 0) (getD ceilings j 0) (getD times j 0) x
+
+abbrev pub heldTime : Ceiling → ℕ
+heldTime (Held c w) = w
+heldTime NotHeld = 0
+
+pub record RaisedIs (next : ℕ → Ceiling) (m : ℕ) (r : Raised) : Type 0 where
+  pub each : r .found ≡ true → (j : ℕ) → j < m → next j ≡ Held (getD (r .ceilings) j 0) (getD (r .times) j 0)
+  pub holding : r .found ≡ true → r .holding ≡ greatest (map (λ j. heldTime (next j)) (countFrom 0 m))
+  pub missed : r .found ≡ false → (j : ℕ) × (j < m) × (next j ≡ NotHeld)
+
+-- tasks
+
+unfoldable pub budgetAgain : ℕ → ℕ → ℕ → Task → List Task → ℕ → Least
+budgetAgain P b tested task higher q = cond (eqb b tested) (At q) (budgetFrom P q b task higher)
+
+unfoldable pub budgetDown : (ℕ → ℕ → Least) → ℕ → ℕ → Least
+budgetDown step zero q = At q
+budgetDown step (suc k) q = elim (step k q) [ At r ↦ budgetDown step k r | Nothing ↦ Nothing ]
+
+-- the step of the task at the place k
+abbrev pub budgetStep : List Task → List ℕ → List ℕ → ℕ → (ℕ → ℕ) → List ℕ → ℕ → ℕ → Least
+budgetStep ts costs deadlines P blocking tested k q = budgetAgain P (blocking k) (getD tested k 0) (dueTask costs k (getD deadlines k 0)) (drop (suc k) ts) q
+
+pub record BudgetIs (step : ℕ → ℕ → Least) (blocking : ℕ → ℕ) (n q : ℕ) (r : Budgeted) : Type 0 where
+  pub value : r .found ≡ true → budgetDown step n q ≡ At (r .budget)
+  pub tested : r .found ≡ true → (k : ℕ) → k < n → getD (r .blocked) k 0 ≡ blocking k
+  pub missed : r .found ≡ false → budgetDown step n q ≡ Nothing
+
+-- pairs
+
+abbrev pub pairAt : List ℕ → List ℕ → ℕ → Pair
+pairAt budgets holdings k = pair (getD budgets k 0) (getD holdings k 0)
+
+unfoldable pub pairsOf : List ℕ → List ℕ → ℕ → List Pair
+pairsOf budgets holdings n = map (pairAt budgets holdings) (countFrom 0 n)
+
+abbrev pub sumAt : List ℕ → List ℕ → ℕ → ℕ
+sumAt budgets holdings k = getD budgets k 0 + getD holdings k 0
+
+pub record LighterIs (budgets holdings : List ℕ) (n s r : ℕ) : Type 0 where
+  pub most : r ≤ n
+  pub behind : (k : ℕ) → r ≤ k → k < n → s ≤ sumAt budgets holdings k
+  pub last : (k : ℕ) → suc k ≡ r → sumAt budgets holdings k < s
