@@ -29,7 +29,7 @@ name-refused s k r e = rw e refl
 
 module _ (s : List ℕ) (k : ℕ) (f : PlanFile) (h : Handed s f) where
   -- whether k is the number of a part, by the count that was handed on
-  number-is : isPartNumber k (h .parts) ≡ (leb 1 k && leb k (f .count))
+  pub number-is : isPartNumber k (h .parts) ≡ (leb 1 k && leb k (f .count))
   number-is = ap (λ (n : ℕ). leb 1 k && leb k n) (h .count)
 
   pub name-given : leb 1 k && leb k (f .count) ≡ true → nameOf s k ≡ answered (nthOr noPart k (h .parts) .name)

@@ -1,12 +1,15 @@
 // The five operations: plan, candidates, name, weigh and supply. Their answers.
 use candidates::Kept;
+use candidates::Pair;
 use refusal::Outcome;
 use refusal::Refusal;
 ghost use mathlib.Core.Path.{_≡_};
 ghost use mathlib.Core.Bool.{_&&_};
 ghost use lib.Dec.{leb};
+ghost use Rattle.refusal.specs.Limits.{numberLimit};
 ghost use Rattle.refusal.specs.Questions.{outcomeOf};
-ghost use Rattle.planner.specs.Answers.{nameOf, nameBytes};
+ghost use Rattle.refusal.specs.Questions.Answer.{refused};
+ghost use Rattle.planner.specs.Answers.{candidatesOf, candidateList, nameOf, nameBytes, supplyAnswer, supplied};
 
 // What a plan answers: how many bytes it wrote.
 pub struct Planned {
@@ -70,5 +73,81 @@ pub fn name(file: &[u8], part: usize) -> &[u8]
             }
             &file[..0]
         }
+    }
+}
+
+fn refused_list(r: Refusal) -> CandidateList
+    ensures { λ x. ⌜ x ≡ candidateList (refused r) ⌝ }
+{
+    let none = Pair {
+        budget: 0,
+        holding: 0,
+    };
+    CandidateList {
+        outcome: Outcome::Refused(r),
+        kept: Kept {
+            pairs: [none; 121],
+            count: 0,
+        },
+    }
+}
+
+// The kept pairs of a part, counted from 1: questions 1 to 9, then 12, then 10 for that part alone.
+pub fn candidates(file: &[u8], part: usize) -> CandidateList
+    ensures { λ r. ⌜ r ≡ candidateList (candidatesOf (now (file .entry)) part) ⌝ }
+{
+    let f = reader::read_file(file);
+    let o = f.outcome;
+    match o {
+        Outcome::Refused(r) => refused_list(r),
+        Outcome::Done => {
+            if is_part_number(part, f.count) {
+                let k = part - 1;
+                let p = f.parts[k];
+                let kept = candidates::kept_of(p.part);
+                if kept.count == 0 {
+                    return refused_list(Refusal::NoBudget(part as u64));
+                }
+                return CandidateList {
+                    outcome: Outcome::Done,
+                    kept,
+                };
+            }
+            refused_list(Refusal::BadHandSet(0))
+        }
+    }
+}
+
+const NUMBER_LIMIT: u64 = 65535;
+
+// Question 12 for a period, a budget and a time.
+fn is_in_range(p: u64, q: u64, t: u64) -> bool
+    ensures { λ r. ⌜ r ≡ (leb 1 q && leb q p) && (leb p numberLimit && leb t numberLimit) ⌝ }
+{
+    if q < 1 {
+        return false;
+    }
+    if p < q {
+        return false;
+    }
+    if NUMBER_LIMIT < p {
+        return false;
+    }
+    t <= NUMBER_LIMIT
+}
+
+// The supply of a budget of q in every p ticks in t ticks: question 12.
+pub fn supply(p: u64, q: u64, t: u64) -> Supplied
+    ensures { λ r. ⌜ r ≡ supplied (supplyAnswer p q t) ⌝ }
+{
+    if is_in_range(p, q, t) {
+        return Supplied {
+            outcome: Outcome::Done,
+            ticks: supply::supply(p, q, t),
+        };
+    }
+    Supplied {
+        outcome: Outcome::Refused(Refusal::BadHandSet(0)),
+        ticks: 0,
     }
 }
