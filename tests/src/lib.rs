@@ -7,17 +7,22 @@
 //! - [`listing`]: the printed bytes
 //! - [`literal`]: all of it again by brute force, for small files
 //! - [`random`]: made-up plan files
+//! - [`timing`]: nanoseconds a run
+//! - `library`: the planner's own library, with the feature of that name
 //!
 //! This page has the operations that a caller may use with any input.
 
 use std::ops::Range;
 
 pub mod file;
+#[cfg(feature = "library")]
+pub mod library;
 pub mod listing;
 pub mod literal;
 pub mod local;
 pub mod random;
 pub mod system;
+pub mod timing;
 
 use file::LARGEST_NUMBER;
 use local::{Local, Pair};

@@ -14,12 +14,14 @@ ghost use Rattle.candidates.specs.Candidates.{keptAnswer, keptOf};
 ghost use Rattle.candidates.specs.Code.{nextCeiling, ceilingAt, FineLocks, RaisedIs, budgetAgain, budgetStep, BudgetIs, pairsOf, sumAt, LighterIs};
 
 // A candidate: a least passing budget Q with its setting's holding time X.
+#[repr(C)]
 pub struct Pair {
     pub budget: u64,
     pub holding: u64,
 }
 
 // The kept list in falling X, and its count; the places behind it are zero.
+#[repr(C)]
 pub struct Kept {
     pub pairs: [Pair; 121],
     pub count: usize,
