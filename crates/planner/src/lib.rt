@@ -102,9 +102,9 @@ pub fn candidates(file: &[u8], part: usize) -> CandidateList
         Outcome::Refused(r) => refused_list(r),
         Outcome::Done => {
             if is_part_number(part, f.count) {
-                let k = part - 1;
-                let p = f.parts[k];
-                let kept = candidates::kept_of(p.part);
+                let place = part - 1;
+                let read = f.parts[place];
+                let kept = candidates::kept_of(read.part);
                 if kept.count == 0 {
                     return refused_list(Refusal::NoBudget(part as u64));
                 }

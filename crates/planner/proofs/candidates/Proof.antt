@@ -42,14 +42,14 @@ range c = number-range (c .before .before .before .before .before .before .args 
 handed : (c : tie.Then1) → Handed (c .before .before .before .before .before .before .args .file .now) (c .before .before .before .before .read-file .result)
 handed c = handed-done (c .before .before .before .before .before .before .args .file .now) (c .before .before .before .before .read-file .result) (c .before .before .before .before .read-file .ensures) (c .before .before .enum-told .given .1)
 
-sub-k : tie.Need-sub-k
-sub-k c = range c .0
+sub-place : tie.Need-sub-place
+sub-place c = range c .0
 
-mul-p : tie.Need-mul-p
-mul-p c = omega (arith, range c .1, c .before .before .before .before .read-file .ensures .few)
+mul-read : tie.Need-mul-read
+mul-read c = omega (arith, range c .1, c .before .before .before .before .read-file .ensures .few)
 
-element-copy-out-p : tie.Need-element-copy-out-p
-element-copy-out-p c = omega (arith, range c .0, range c .1, c .before .before .before .before .read-file .ensures .few)
+element-copy-out-read : tie.Need-element-copy-out-read
+element-copy-out-read c = omega (arith, range c .0, range c .1, c .before .before .before .before .read-file .ensures .few)
 
 kept-of-requires : tie.Need-kept-of-requires
 kept-of-requires c κs =
@@ -107,9 +107,9 @@ candidates-spec =
     refused-list-requires
     enum-told
     is-part-number-requires
-    sub-k
-    mul-p
-    element-copy-out-p
+    sub-place
+    mul-read
+    element-copy-out-read
     kept-of-requires
     refused-list-requires-2
     returns
