@@ -20,6 +20,12 @@ module _ {A : Type 0} where
   on-last-split f d (x ∷ []) h = refl
   on-last-split f d (x ∷ y ∷ ys) h = ap (λ (l : List A). x ∷ l) (on-last-split f x (y ∷ ys) (omega arith))
 
+  pub on-last-snoc : (f : A → A) (xs : List A) (x : A) → onLast f (xs ++ (x ∷ [])) ≡ xs ++ (f x ∷ [])
+  unfolding onLast
+  on-last-snoc f [] x = refl
+  on-last-snoc f (y ∷ []) x = refl
+  on-last-snoc f (y ∷ z ∷ zs) x = ap (λ (l : List A). y ∷ l) (on-last-snoc f (z ∷ zs) x)
+
   pub last-snoc : (d : A) (xs : List A) (x : A) → lastOr d (xs ++ (x ∷ [])) ≡ x
   unfolding lastOr
   last-snoc d [] x = refl

@@ -1,4 +1,5 @@
 pub mod Above
 pub mod Reading
 pub mod Numbers
+pub mod PartLines
 pub mod Entries

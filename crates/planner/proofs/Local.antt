@@ -1,0 +1,37 @@
+-- In two files with the same lines for one part, that part's list is the same.
+-- Assumes nothing.
+use Prim.Native.Nat.{ℕ, _≤_}
+use mathlib.Core.Path.{_≡_, refl, sym, ap, _∙_}
+use mathlib.Core.Bool.{not}
+use mathlib.Core.List.{List, [], _∷_}
+use borrow.Author.Tests.{le-leb}
+use lib.ListN.{length}
+use Rattle.least.specs.Lists.{isEmpty, nthOr}
+use Rattle.refusal.specs.declared.Refusal.the-variants.{NoBudget}
+use Rattle.refusal.specs.Questions.{ask, firstNo, whenAnswered, whenDone}
+use Rattle.refusal.specs.Questions.Answer.{answered}
+use Rattle.candidates.specs.declared.Pair.{Pair}
+use Rattle.candidates.specs.Candidates.{keptAnswer}
+use Rattle.plan_file.specs.Above.{FilePart, noPart}
+use Rattle.plan_file.specs.Reading.{readFile}
+use Rattle.plan_file.specs.PartLines.{linesOfPart}
+use Rattle.plan_file.proofs.PartLines.{partIn, part-by-lines}
+use Rattle.planner.specs.Parts.{keptPairs}
+use Rattle.planner.specs.Answers.{candidatesOf, candidateList}
+
+pub kept-local : (s u : List ℕ) (j k : ℕ) (ps us : List FilePart) → readFile s ≡ answered ps → readFile u ≡ answered us → 1 ≤ j → j ≤ length ps → 1 ≤ k → k ≤ length us → linesOfPart j s ≡ linesOfPart k u → keptPairs (nthOr noPart j ps) ≡ keptPairs (nthOr noPart k us)
+kept-local s u j k ps us e f _ _ _ _ same = ap keptPairs (part-by-lines s ps j e ∙ (ap partIn same ∙ sym (part-by-lines u us k f)))
+
+-- the list of an answer is the part's kept list; where this is empty, the refusal 10 has the empty list too
+none-or-kept : (k : ℕ) (kept : List Pair) → candidateList (whenDone (firstNo (ask (NoBudget k) (not (isEmpty kept)) ∷ [])) (answered kept)) .kept ≡ keptAnswer kept
+unfolding candidateList whenDone firstNo isEmpty
+none-or-kept k [] = refl
+none-or-kept k (c ∷ cs) = refl
+
+candidates-kept : (s : List ℕ) (k : ℕ) (ps : List FilePart) → readFile s ≡ answered ps → 1 ≤ k → k ≤ length ps → candidateList (candidatesOf s k) .kept ≡ keptAnswer (keptPairs (nthOr noPart k ps))
+unfolding candidatesOf whenAnswered firstNo
+candidates-kept s k ps e a b = rw e (simp (le-leb 1 k a, le-leb k (length ps) b) (none-or-kept k (keptPairs (nthOr noPart k ps))))
+
+pub candidates-local : (s u : List ℕ) (j k : ℕ) (ps us : List FilePart) → readFile s ≡ answered ps → readFile u ≡ answered us → 1 ≤ j → j ≤ length ps → 1 ≤ k → k ≤ length us → linesOfPart j s ≡ linesOfPart k u → candidateList (candidatesOf s j) .kept ≡ candidateList (candidatesOf u k) .kept
+candidates-local s u j k ps us e f a b c d same =
+    candidates-kept s j ps e a b ∙ (ap keptAnswer (kept-local s u j k ps us e f a b c d same) ∙ sym (candidates-kept u k us f c d))
