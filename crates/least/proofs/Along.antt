@@ -1,6 +1,6 @@
--- Laws of `everyAlong`: it passes just if the test passes at each way to part the list in what stands before, an element, and what stands behind.
+-- Laws of `along`: what stands at a place. Laws of `everyAlong`: it passes just if the test passes at each way to part the list in what stands before, an element, and what stands behind.
 -- Assumes nothing.
-use Prim.Native.Nat.{ℕ, suc, _<_}
+use Prim.Native.Nat.{ℕ, zero, suc, _<_}
 use native.Mathlib.Omega.{arith}
 use mathlib.Core.Path.{_≡_, refl, sym, ap, _∙_, subst}
 use mathlib.Core.Bool.{Bool, true, false, false≢true}
@@ -8,7 +8,7 @@ use mathlib.Core.List.{List, [], _∷_, _++_, reverse, reverseAux, reverse-rever
 use mathlib.Core.Logic.{_↔_}
 use lib.ListN.{length, take, drop, getD, length-append}
 use lib.Seq.{split-at, take-append-seam, getD-append-seam}
-use Rattle.least.specs.Lists.{everyBehind, everyAlong}
+use Rattle.least.specs.Lists.{behind, along, everyBehind, everyAlong}
 
 module _ {A : Type 0} where
   -- the test passes at each place of xs, where `before` stands before xs, nearest first
@@ -80,3 +80,14 @@ module _ {A : Type 0} (test : List A → A → List A → Bool) where
 
       from : PassesPlaces d xs → everyAlong test xs ≡ true
       from h = along-iff xs .1 (λ lower x higher e. ap (λ (l : List A). test l x higher) (sym (reverse-reverse lower)) ∙ places-seam d (reverse lower) x higher (subst (PassesPlaces d) (sym e) h))
+
+-- what stands at the place k
+module _ {A B : Type 0} (f : List A → A → List A → B) (d : A) (e : B) where
+  behind-at : (before xs : List A) (k : ℕ) → k < length xs → getD (behind f before xs) k e ≡ f (reverseAux (take k xs) before) (getD xs k d) (drop (suc k) xs)
+  unfolding behind
+  behind-at before [] k h = absurd (omega arith)
+  behind-at before (x ∷ xs) zero h = refl
+  behind-at before (x ∷ xs) (suc k) h = behind-at (x ∷ before) xs k (omega arith)
+
+  pub along-at : (xs : List A) (k : ℕ) → k < length xs → getD (along f xs) k e ≡ f (reverse (take k xs)) (getD xs k d) (drop (suc k) xs)
+  along-at xs k h = behind-at [] xs k h

@@ -2,7 +2,7 @@
 --   Ok a == a is not 0/0;  Finite a == the denominator is positive
 --   Reached n g x == x is g at some t, 1 ≤ t ≤ n, and g is greater at every smaller time
 -- Assumes nothing.
-use mathlib.Core.Path.{_≡_, refl, sym, _∙_}
+use mathlib.Core.Path.{_≡_, refl, sym, ap, _∙_, subst}
 use mathlib.Core.Logic.{_⊎_, inl, inr, ⊎-elim}
 use mathlib.Core.Bool.{Bool, true, false, cond}
 use mathlib.Core.List.{List, [], _∷_, List·Memᴰ}
@@ -10,9 +10,11 @@ use mathlib.Core.List.List·Memᴰ.{List·Memᴰ·head, List·Memᴰ·tail}
 use Prim.Native.Nat.{ℕ, zero, suc, _*_, _+_, _≤_, _<_, zero-le}
 use native.Mathlib.Nat.{le-refl, mul-le-mul-right, le-of-mul-le-mul-right, le-of-mul-le-mul-left, mul-right-comm, mul-zero, one-mul, eq-or-lt-of-le}
 use native.Mathlib.Omega.{arith}
+use native.Mathlib.Decide.{decLt, ℕ-discrete}
 use borrow.Author.Tests.{ltb-true, ltb-false, leb-true, leb-false, lt-ltb, le-ltb, le-leb, lt-leb}
 use lib.Dec.{leb, ltb}
 use lib.ListN.{length, getD}
+use Rattle.least.proofs.Members.{getD-any, getD-member}
 use Rattle.least.specs.declared.Frac.{Frac}
 use Rattle.least.specs.Each.{Each}
 use Rattle.least.specs.Each.Each.{none, more}
@@ -206,6 +208,32 @@ module _ (g : ℕ → Frac) (ok : (t : ℕ) → 0 < t → Ok (g t)) where
       (λ r. inr (record { at = r .at; above = r .above; within = omega (arith, r .within); value = r .value; before = r .before }))
       (leastOver-reached n))
 
+module _ (g : ℕ → Frac) (n : ℕ) where
+  -- later values that are no smaller leave the least as it is
+  pub leastOver-stays : (m : ℕ) → n ≤ m → ((u : ℕ) → n < u → u ≤ m → leastOver n g ⊑ g u) → leastOver m g ≡ leastOver n g
+  unfolding leastOver
+  leastOver-stays zero l h = let e : 0 ≡ n = omega arith in ap (λ (k : ℕ). leastOver k g) e
+  leastOver-stays (suc m) l h = go (eq-or-lt-of-le l) (λ k. leastOver-stays m k (λ u p q. h u p (omega arith)))
+    where
+      go : (n ≡ suc m) ⊎ (n < suc m) → (n ≤ m → leastOver m g ≡ leastOver n g) → lesser (leastOver m g) (g (suc m)) ≡ leastOver n g
+      go (inl e) ih = ap (λ (k : ℕ). leastOver k g) (sym e)
+      go (inr k) ih = rw (ih (omega arith)) (lesser-ge (h (suc m) k (le-refl _)))
+
+  leastOver-over : (y : Frac) (m : ℕ) → n ≤ m → y ⊏ leastOver n g → ((u : ℕ) → n < u → u ≤ m → y ⊏ g u) → y ⊏ leastOver m g
+  unfolding leastOver
+  leastOver-over y zero l k h = let e : n ≡ 0 = omega arith in subst (λ (i : ℕ). y ⊏ leastOver i g) e k
+  leastOver-over y (suc m) l k h = go (eq-or-lt-of-le l) (λ j. leastOver-over y m j k (λ u p q. h u p (omega arith)))
+    where
+      go : (n ≡ suc m) ⊎ (n < suc m) → (n ≤ m → y ⊏ leastOver m g) → y ⊏ leastOver (suc m) g
+      go (inl e) ih = subst (λ (i : ℕ). y ⊏ leastOver i g) e k
+      go (inr j) ih = lesser-ind (λ x. y ⊏ x) _ _ (λ _. h (suc m) j (le-refl _)) (λ _. ih (omega arith))
+
+  -- a value that is smaller than the least and than all between takes its place
+  pub leastOver-falls : (m : ℕ) → n < m → g m ⊏ leastOver n g → ((u : ℕ) → n < u → u < m → g m ⊏ g u) → leastOver m g ≡ g m
+  unfolding leastOver
+  leastOver-falls zero l k h = absurd (omega arith)
+  leastOver-falls (suc m) l k h = lesser-lt (leastOver-over (g (suc m)) m (omega arith) k (λ u p q. h u p (omega arith)))
+
 -- the greatest of a list
 abbrev pub AllOk : List Frac → Type 0
 AllOk xs = (x : Frac) → List·Memᴰ x xs → Ok x
@@ -254,6 +282,10 @@ greatestOf-first x (y ∷ ys) =
     let r = greatestOf-first y ys in
     ⊎-elim (λ h. (suc (r .0), greatestOf-later x (y ∷ ys) (r .0) h (r .1))) (λ h. (0, greatestOf-here x (y ∷ ys) h)) (⊏-or-⊑ x (greatestOf (y ∷ ys)))
 
+pub first-if-any : (xs : List Frac) → 1 ≤ length xs → (j : ℕ) × FirstGreatest xs j
+first-if-any [] h = absurd (omega arith)
+first-if-any (x ∷ xs) h = greatestOf-first x xs
+
 -- the greatest of no greater fractions is no greater
 pub greatestOf-mono : {xs ys : List Frac} → AllOk xs → AllOk ys → Each (λ x y. x ⊑ y) xs ys → greatestOf xs ⊑ greatestOf ys
 unfolding greatestOf
@@ -261,3 +293,53 @@ greatestOf-mono okx oky none = ⊑-refl _
 greatestOf-mono okx oky (more {x} {y} {xs} {ys} h hs) =
     greater-most (⊑-trans (oky y (List·Memᴰ·head refl)) h (greater-left _ _))
     (⊑-trans (greatestOf-ok ys (rest-ok oky)) (greatestOf-mono (rest-ok okx) (rest-ok oky) hs) (greater-right _ _))
+
+-- the first i elements: j is the place of the first that reaches the greatest of them
+pub record Leads (d : Frac) (xs : List Frac) (i j : ℕ) : Type 0 where
+  pub within : j < i
+  pub above : (k : ℕ) → k < i → getD xs k d ⊑ getD xs j d
+  pub before : (k : ℕ) → k < j → getD xs k d ⊏ getD xs j d
+
+module _ (d : Frac) (xs : List Frac) where
+  pub leads-start : Leads d xs 1 0
+  leads-start = record {
+    within = omega arith;
+    above = λ k h. let e : k ≡ 0 = omega arith in rw e (⊑-refl _);
+    before = λ k h. absurd (omega arith);
+  }
+
+  -- one element more
+  next : (i : ℕ) (P : ℕ → Type 0) → ((k : ℕ) → k < i → P k) → P i → (k : ℕ) → k < i + 1 → P k
+  next i P f p k h = go (eq-or-lt-of-le {n = k} {m = i} (omega arith))
+    where
+      go : (k ≡ i) ⊎ (k < i) → P k
+      go (inl e) = subst P (sym e) p
+      go (inr l) = f k l
+
+  pub leads-on : (i j : ℕ) → Leads d xs i j → getD xs i d ⊑ getD xs j d → Leads d xs (i + 1) j
+  leads-on i j f h = record { within = omega (arith, f .within); above = next i (λ k. getD xs k d ⊑ getD xs j d) (f .above) h; before = f .before }
+
+  pub leads-over : (i j : ℕ) → ((k : ℕ) → k < i → Ok (getD xs k d)) → Leads d xs i j → getD xs j d ⊏ getD xs i d → Leads d xs (i + 1) i
+  leads-over i j ok f h = record {
+    within = omega arith;
+    above = next i (λ k. getD xs k d ⊑ getD xs i d) (λ k l. ⊏-⊑ (⊑-⊏-trans (ok k l) (f .above k l) h)) (⊑-refl _);
+    before = λ k l. ⊑-⊏-trans (ok k l) (f .above k l) h;
+  }
+
+  leads-first : (i j m : ℕ) → Leads d xs i j → i ≡ length xs → AllOk xs → FirstGreatest xs m → Dec (j ≡ m) → j ≡ m
+  leads-first i j m f e ok g (yes q) = q
+  leads-first i j m f e ok g (no q) = absurd (go (decLt j m))
+    where
+      in-place : (k : ℕ) → k < length xs → getD xs k d ≡ getD xs k (frac 0 1)
+      in-place k h = getD-any xs k d (frac 0 1) h
+
+      go : Dec (j < m) → ⊥
+      go (yes h) = not-⊏ (g .before j h) (rw (sym (g .value), ← in-place j (omega (arith, f .within)), ← in-place m (g .within)) (f .above m (omega (arith, g .within))))
+      go (no h) =
+          let k : m < j = omega arith in
+          not-⊏ (rw (in-place m (g .within), in-place j (omega (arith, f .within)), g .value) at (f .before m k)) (greatestOf-above ok (getD-member xs j (frac 0 1) (omega (arith, f .within))))
+
+  pub leads-end : (i j : ℕ) → Leads d xs i j → i ≡ length xs → AllOk xs → FirstGreatest xs j
+  leads-end i j f e ok =
+      let g = first-if-any xs (omega (arith, f .within)) in
+      subst (FirstGreatest xs) (sym (leads-first i j (g .0) f e ok (g .1) (ℕ-discrete j (g .0)))) (g .1)

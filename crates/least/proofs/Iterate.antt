@@ -1,5 +1,5 @@
--- The least w with f w ≤ w, for a monotone f, by iteration. A value with no solution below it steps to f of it, which again has none below it;
--- where f w ≤ w it is the least solution.
+-- The least w with f w ≤ w, for a monotone f, by iteration. A value with no solution below it, from 1 or from any start on, steps to f of it,
+-- which again has none below it; where f w ≤ w it is the least solution.
 -- Assumes nothing.
 use Prim.Native.Nat.{ℕ, suc, _+_, _≤_, _<_}
 use native.Mathlib.Nat.{le-trans, lt-of-lt-of-le}
@@ -20,21 +20,28 @@ Mono f = (v w : ℕ) → v ≤ w → f v ≤ f w
 abbrev pub settles : (ℕ → ℕ) → ℕ → Bool
 settles f w = leb (f w) w
 
--- no v with 1 ≤ v < w solves f v ≤ v
+-- no v with a ≤ v < w solves f v ≤ v
+abbrev pub UnsolvedFrom : ℕ → (ℕ → ℕ) → ℕ → Type 0
+UnsolvedFrom a f w = (v : ℕ) → a ≤ v → v < w → v < f v
+
+-- the same of the numbers from 1 on
 abbrev pub Unsolved : (ℕ → ℕ) → ℕ → Type 0
-Unsolved f w = (v : ℕ) → 1 ≤ v → v < w → v < f v
+Unsolved f w = UnsolvedFrom 1 f w
 
 -- a start: what every value of f reaches
 pub start-unsolved : (f : ℕ → ℕ) (g : ℕ) → ((v : ℕ) → g ≤ f v) → Unsolved f g
 start-unsolved f g low v l h = lt-of-lt-of-le h (low v)
 
 -- a step, to f w or to anything below it
-pub step-unsolved : (f : ℕ → ℕ) (w x : ℕ) → Mono f → Unsolved f w → x ≤ f w → Unsolved f x
-step-unsolved f w x mono uns s v l h = go (decLt v w)
+pub step-from : (a : ℕ) (f : ℕ → ℕ) (w x : ℕ) → Mono f → UnsolvedFrom a f w → x ≤ f w → UnsolvedFrom a f x
+step-from a f w x mono uns s v l h = go (decLt v w)
   where
     go : Dec (v < w) → v < f v
     go (yes q) = uns v l q
     go (no q) = lt-of-lt-of-le h (le-trans s (mono w v (omega arith)))
+
+pub step-unsolved : (f : ℕ → ℕ) (w x : ℕ) → Mono f → Unsolved f w → x ≤ f w → Unsolved f x
+step-unsolved f w x mono uns s = step-from 1 f w x mono uns s
 
 none-settles : (f : ℕ → ℕ) (w e : ℕ) → Unsolved f w → e ≤ w → NoneIn (settles f) 1 e
 none-settles f w e uns l v p h = lt-leb (f v) v (uns v p (omega arith))

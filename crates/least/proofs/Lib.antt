@@ -15,3 +15,4 @@ pub mod Fill
 pub mod Numbers
 pub mod Members
 pub mod Count
+pub mod First

@@ -2,6 +2,7 @@
 ghost use mathlib.Core.Path.{_≡_};
 ghost use Prim.Native.Nat.{_+_, _^_, min, max, _≤_, _<_};
 ghost use Rattle.least.specs.Round.{ceilDiv};
+ghost use Rattle.least.specs.Fraction.{less};
 
 // The answer of a bounded search for the least number that passes a test.
 pub enum Least {
@@ -35,4 +36,12 @@ pub fn smaller(a: u64, b: u64) -> u64
     ensures { λ r. ⌜ r ≡ min a b ⌝ }
 {
     if a < b { a } else { b }
+}
+
+// Whether one fraction is smaller than another.
+pub fn is_less(a: Frac, b: Frac) -> bool
+    requires { ⌜ (a .num < 2 ^ 32) × (a .den < 2 ^ 32) × (b .num < 2 ^ 32) × (b .den < 2 ^ 32) ⌝ }
+    ensures { λ r. ⌜ r ≡ less a b ⌝ }
+{
+    a.num * b.den < b.num * a.den
 }

@@ -13,10 +13,10 @@ use native.Mathlib.Omega.{arith}
 use native.Mathlib.Decide.{decLe}
 use borrow.Author.Tests.{leb-true, le-leb, lt-leb}
 use lib.Dec.{leb}
-use lib.ListN.{length, getD}
+use lib.ListN.{length}
 use Rattle.least.specs.declared.Frac.{Frac}
 use Rattle.least.specs.Round.{ceilDiv}
-use Rattle.least.specs.Lists.{sum, greatest, nthOr, behind, everyBehind, firstFrom}
+use Rattle.least.specs.Lists.{sum, greatest, nthOr, behind, everyBehind}
 use Rattle.least.specs.Each.{Each}
 use Rattle.least.specs.Each.Each.{none, more}
 use Rattle.least.specs.Fraction.{frac, noBound, _⊑_, _⊏_, atMost, greatestOf}
@@ -25,7 +25,8 @@ use Rattle.least.proofs.Round.{ceil-mono}
 use Rattle.least.proofs.Search.{any-iff}
 use Rattle.least.proofs.Lists.{nth-get}
 use Rattle.least.proofs.Along.{along-iff}
-use Rattle.least.proofs.Fraction.{Ok, Finite, AllOk, Reached, FirstGreatest, cond-le, atMost-true, atMost-false, ⊑-refl, ⊑-noBound, not-⊏, greater-ind, greater-left, greater-right, noBound-not-finite, finite-below, leastOver-ok, leastOver-below, leastOver-mono, leastOver-reached, greatestOf-ok, greatestOf-above, greatestOf-member, greatestOf-first, greatestOf-mono}
+use Rattle.least.proofs.Fraction.{Ok, Finite, AllOk, Reached, FirstGreatest, cond-le, atMost-true, atMost-false, ⊑-refl, ⊑-noBound, not-⊏, greater-ind, greater-left, greater-right, noBound-not-finite, finite-below, leastOver-ok, leastOver-below, leastOver-mono, leastOver-reached, greatestOf-ok, greatestOf-above, greatestOf-member, first-if-any, greatestOf-mono}
+use Rattle.least.proofs.First.{first-is}
 use Rattle.load.specs.declared.Row.{Row}
 use Rattle.load.specs.Load.{rowSum, demandOf, loadAt, rowPasses, passesSystem, ratio, boundOf, boundsOf, loadOf, loadRow}
 
@@ -217,19 +218,10 @@ pub record LoadRow (rows : List Row) (k : ℕ) : Type 0 where
   pub value : nthOr (frac 0 1) k (boundsOf rows) ≡ loadOf rows
   pub before : (j : ℕ) → 1 ≤ j → j < k → nthOr (frac 0 1) j (boundsOf rows) ⊏ loadOf rows
 
-firstFrom-is : {A : Type 0} (test : A → Bool) (d : A) (i j : ℕ) (xs : List A) → j < length xs → test (getD xs j d) ≡ true → ((k : ℕ) → k < j → test (getD xs k d) ≡ false) → firstFrom i test xs ≡ i + j
-unfolding firstFrom
-firstFrom-is test d i j [] h e f = absurd (omega arith)
-firstFrom-is test d i zero (x ∷ xs) h e f = rw (e, firstFrom) (omega arith)
-firstFrom-is test d i (suc j) (x ∷ xs) h e f =
-    let g : test x ≡ false = f 0 (omega arith) in
-    rw (g, firstFrom) (omega (arith, firstFrom-is test d (suc i) j xs (omega arith) e (λ k l. f (suc k) (omega arith))))
-
-loadRow-place : (rows : List Row) (j : ℕ) → FirstGreatest (boundsOf rows) j → loadRow rows ≡ suc j
+pub loadRow-place : (rows : List Row) (j : ℕ) → FirstGreatest (boundsOf rows) j → loadRow rows ≡ suc j
 unfolding loadRow loadOf
 loadRow-place rows j f =
-    firstFrom-is (atMost (loadOf rows)) (frac 0 1) 1 j (boundsOf rows) (f .within) (rw (f .value) (atMost-true (loadOf rows) (loadOf rows) (⊑-refl _))) (λ k h. atMost-false (loadOf rows) _ (f .before k h))
-    ∙ omega arith
+    first-is (frac 0 1) (atMost (loadOf rows)) j (boundsOf rows) (f .within) (rw (f .value) (atMost-true (loadOf rows) (loadOf rows) (⊑-refl _))) (λ k h. atMost-false (loadOf rows) _ (f .before k h))
 
 loadRow-at : (rows : List Row) (j : ℕ) → FirstGreatest (boundsOf rows) j → LoadRow rows (suc j)
 unfolding loadOf
@@ -243,10 +235,6 @@ loadRow-at rows j f = record {
     earlier : (k : ℕ) → 1 ≤ k → k < suc j → nthOr (frac 0 1) k (boundsOf rows) ⊏ greatestOf (boundsOf rows)
     earlier zero h l = absurd (omega arith)
     earlier (suc k) h l = rw nth-get (f .before k (omega arith))
-
-first-if-any : (xs : List Frac) → 1 ≤ length xs → (j : ℕ) × FirstGreatest xs j
-first-if-any [] h = absurd (omega arith)
-first-if-any (x ∷ xs) h = greatestOf-first x xs
 
 pub loadRow-first : (rows : List Row) → 1 ≤ length rows → LoadRow rows (loadRow rows)
 loadRow-first rows h =
