@@ -16,3 +16,4 @@ pub mod Numbers
 pub mod Members
 pub mod Count
 pub mod First
+pub mod Columns

@@ -7,7 +7,7 @@ use mathlib.Core.Logic.{⊎-elim, _↔_}
 use mathlib.Core.Bool.{Bool, true, false, false≢true}
 use mathlib.Core.List.{List, [], _∷_, _++_, map, reverse, List·Memᴰ}
 use mathlib.Core.List.List·Memᴰ.{List·Memᴰ·head, List·Memᴰ·tail}
-use Prim.Native.Nat.{ℕ, zero, suc, _+_, _≤_, _<_}
+use Prim.Native.Nat.{ℕ, zero, suc, _≤_, _<_}
 use native.Mathlib.Nat.{le-refl, mul-le-mul-left, mul-le-mul-right, add-le-add}
 use native.Mathlib.Omega.{arith}
 use native.Mathlib.Decide.{decLe}
@@ -31,11 +31,11 @@ use Rattle.load.specs.declared.Row.{Row}
 use Rattle.load.specs.Load.{rowSum, demandOf, loadAt, rowPasses, passesSystem, ratio, boundOf, boundsOf, loadOf, loadRow}
 
 -- the ratio L/t
-ratio-is : (L t : ℕ) → L ≤ t → ratio L t ≡ frac L t
+pub ratio-is : (L t : ℕ) → L ≤ t → ratio L t ≡ frac L t
 unfolding ratio
 ratio-is L t h = simp (le-leb L t h)
 
-ratio-none : (L t : ℕ) → t < L → ratio L t ≡ noBound
+pub ratio-none : (L t : ℕ) → t < L → ratio L t ≡ noBound
 unfolding ratio
 ratio-none L t h = simp (lt-leb L t h)
 

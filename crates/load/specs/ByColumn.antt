@@ -1,0 +1,40 @@
+-- Rows by columns, one array for each of their numbers: what a loop reads, where the struct would be copied.
+--   sharesOf periods sums n == n rows with these periods, each of which costs what `sums` has for it
+--   FinePeriods periods n   == there are at most 16 periods, each 1 ≤ P ≤ 2^20
+--   FineShares periods sums n == and none of the rows costs more than 2^22
+--   DemandIs rows s t x     == x is what the rows from the place s on ask for in t ticks
+--   SameUntil periods n s t most e == e is from t to `most`, and in e ticks each row from the place s on comes as often as in t ticks
+-- Assumes nothing.
+use Prim.Native.Nat.{ℕ, _^_, _≤_, _<_}
+use mathlib.Core.Path.{_≡_}
+use mathlib.Core.List.{List, map}
+use lib.ListN.{getD, drop}
+use Rattle.least.specs.Round.{ceilDiv}
+use Rattle.least.specs.Lists.{countFrom}
+use Rattle.load.specs.declared.Row.{Row}
+use Rattle.load.specs.Load.{row, demandOf}
+
+-- the one at the place k, from 0
+abbrev pub shareAt : List ℕ → List ℕ → ℕ → Row
+shareAt periods sums k = row (getD periods k 0) (getD sums k 0) 0
+
+unfoldable pub sharesOf : List ℕ → List ℕ → ℕ → List Row
+sharesOf periods sums n = map (shareAt periods sums) (countFrom 0 n)
+
+pub record FinePeriods (periods : List ℕ) (n : ℕ) : Type 0 where
+  pub few : n ≤ 16
+  pub some : (k : ℕ) → k < n → 1 ≤ getD periods k 0
+  pub most : (k : ℕ) → k < n → getD periods k 0 ≤ 2 ^ 20
+
+pub record FineShares (periods sums : List ℕ) (n : ℕ) : Type 0 where
+  pub fine : FinePeriods periods n
+  pub most : (k : ℕ) → k < n → getD sums k 0 ≤ 2 ^ 22
+
+pub record DemandIs (rows : List Row) (s t x : ℕ) : Type 0 where
+  pub value : x ≡ demandOf (drop s rows) t
+  pub small : x ≤ 2 ^ 46
+
+pub record SameUntil (periods : List ℕ) (n s t most e : ℕ) : Type 0 where
+  pub from : t ≤ e
+  pub within : e ≤ most
+  pub same : (k : ℕ) → s ≤ k → k < n → ceilDiv e (getD periods k 0) ≡ ceilDiv t (getD periods k 0)
