@@ -13,12 +13,13 @@ use native.Mathlib.Omega.{arith}
 use native.Mathlib.Decide.{decLt, ℕ-discrete}
 use borrow.Author.Tests.{ltb-true, ltb-false, leb-true, leb-false, lt-ltb, le-ltb, le-leb, lt-leb}
 use lib.Dec.{leb, ltb}
-use lib.ListN.{length, getD}
-use Rattle.least.proofs.Members.{getD-any, getD-member}
+use lib.ListN.{length, take, getD}
+use lib.Seq.{getD-take, length-take-le}
+use Rattle.least.proofs.Members.{each-place, getD-any, getD-member}
 use Rattle.least.specs.declared.Frac.{Frac}
 use Rattle.least.specs.Each.{Each}
 use Rattle.least.specs.Each.Each.{none, more}
-use Rattle.least.specs.Fraction.{frac, noBound, _⊑_, _⊏_, atMost, lesser, greater, leastOver, greatestOf}
+use Rattle.least.specs.Fraction.{frac, noBound, _⊑_, _⊏_, less, atMost, lesser, greater, leastOver, greatestOf}
 
 pub record Ok (a : Frac) : Type 0 where
   pub some : 0 < a .num + a .den
@@ -97,6 +98,13 @@ atMost-true a b h = le-leb _ _ (h .cross)
 
 pub atMost-false : (a b : Frac) → b ⊏ a → atMost a b ≡ false
 atMost-false a b h = lt-leb _ _ (h .cross)
+
+-- the test a ⊏ b
+pub less-true : (a b : Frac) → less a b ≡ true → a ⊏ b
+less-true a b e = record { cross = ltb-true _ _ e }
+
+pub less-false : (a b : Frac) → less a b ≡ false → b ⊑ a
+less-false a b e = record { cross = ltb-false _ _ e }
 
 -- the lesser and the greater of two
 pub lesser-left : (a b : Frac) → lesser a b ⊑ a
@@ -339,7 +347,20 @@ module _ (d : Frac) (xs : List Frac) where
           let k : m < j = omega arith in
           not-⊏ (rw (in-place m (g .within), in-place j (omega (arith, f .within)), g .value) at (f .before m k)) (greatestOf-above ok (getD-member xs j (frac 0 1) (omega (arith, f .within))))
 
-  pub leads-end : (i j : ℕ) → Leads d xs i j → i ≡ length xs → AllOk xs → FirstGreatest xs j
+  leads-end : (i j : ℕ) → Leads d xs i j → i ≡ length xs → AllOk xs → FirstGreatest xs j
   leads-end i j f e ok =
       let g = first-if-any xs (omega (arith, f .within)) in
       subst (FirstGreatest xs) (sym (leads-first i j (g .0) f e ok (g .1) (ℕ-discrete j (g .0)))) (g .1)
+
+-- the first n elements of a list
+pub leads-in : (d : Frac) (xs : List Frac) (n j : ℕ) → n ≤ length xs → ((k : ℕ) → k < n → Ok (getD xs k d)) → Leads d xs n j → FirstGreatest (take n xs) j
+leads-in d xs n j l ok f =
+    let e : length (take n xs) ≡ n = length-take-le n xs l in
+    leads-end d (take n xs) n j
+    (record {
+      within = f .within;
+      above = λ k h. rw (getD-take n xs k d h, getD-take n xs j d (f .within)) (f .above k h);
+      before = λ k h. rw (getD-take n xs k d (omega (arith, f .within)), getD-take n xs j d (f .within)) (f .before k h);
+    })
+    (sym e)
+    (each-place d Ok (take n xs) (λ k h. let i : k < n = omega arith in rw (getD-take n xs k d i) (ok k i)))

@@ -2,7 +2,7 @@
 -- Assumes nothing.
 use Prim.Native.Nat.{ℕ, zero, suc, _<_}
 use native.Mathlib.Omega.{arith}
-use mathlib.Core.Path.{_≡_, refl, subst}
+use mathlib.Core.Path.{_≡_, refl, sym, subst}
 use mathlib.Core.Logic.{_↔_}
 use mathlib.Core.List.{List, [], _∷_, reverse, reverse-cons, reverse-reverse, List·Memᴰ, List·Memᴰ·head, List·Memᴰ·tail, Memᴰ·append-left, Memᴰ·append-right}
 use lib.ListN.{length, take, drop, getD, take-append-drop}
@@ -11,6 +11,10 @@ module _ {A : Type 0} where
   pub place-of : (d : A) {x : A} (xs : List A) → List·Memᴰ x xs → (k : ℕ) × (k < length xs) × (x ≡ getD xs k d)
   place-of d (y ∷ ys) (List·Memᴰ·head q) = (0, omega arith, q)
   place-of d (y ∷ ys) (List·Memᴰ·tail m) = let h = place-of d ys m in (suc (h .0), omega (arith, h .1), h .2)
+
+  -- what holds at each place holds of each member
+  pub each-place : (d : A) (P : A → Type 0) (xs : List A) → ((k : ℕ) → k < length xs → P (getD xs k d)) → (x : A) → List·Memᴰ x xs → P x
+  each-place d P xs h x m = let p = place-of d xs m in subst P (sym (p .2)) (h (p .0) (p .1))
 
   pub getD-member : (xs : List A) (k : ℕ) (d : A) → k < length xs → List·Memᴰ (getD xs k d) xs
   getD-member [] k d h = absurd (omega arith)

@@ -1,10 +1,12 @@
 -- The laws of `pad`: its length, its elements, and what a store and a longer list do to it.
 -- Assumes nothing.
-use Prim.Native.Nat.{ℕ, zero, suc, _≤_, _<_}
-use native.Mathlib.Nat.{le-of-suc-le-suc, not-suc-le-zero}
+use Prim.Native.Nat.{ℕ, zero, suc, _+_, _≤_, _<_}
+use native.Mathlib.Nat.{le-of-lt, le-of-suc-le-suc, not-suc-le-zero}
+use native.Mathlib.Numerals.{add-one}
 use mathlib.Core.Path.{_≡_, refl, ap}
 use mathlib.Core.List.{List, [], _∷_, _++_}
-use lib.ListN.{length, set, getD}
+use lib.ListN.{length, take, set, getD, replicate}
+use lib.Seq.{take-suc, length-take-le}
 use Rattle.least.specs.Lists.{pad}
 
 module _ {A : Type 0} where
@@ -35,3 +37,23 @@ module _ {A : Type 0} where
   getD-pad (suc k) z [] (suc i) h = getD-pad k z [] i (le-of-suc-le-suc h)
   getD-pad (suc k) z (x ∷ xs) zero h = refl
   getD-pad (suc k) z (x ∷ xs) (suc i) h = getD-pad k z xs i (le-of-suc-le-suc h)
+
+  -- no element, then one after the other
+  pub pad-none : (k : ℕ) (z : A) → replicate k z ≡ pad k z []
+  unfolding pad
+  pad-none zero z = refl
+  pad-none (suc k) z = ap (λ (l : List A). z ∷ l) (pad-none k z)
+
+  pub pad-next : (k : ℕ) (z : A) (xs : List A) (i : ℕ) (x d : A) → i < length xs → i < k → x ≡ getD xs i d → set (pad k z (take i xs)) i x ≡ pad k z (take (i + 1) xs)
+  pad-next k z xs i x d h l e =
+      let n : length (take i xs) ≡ i = length-take-le i xs (le-of-lt h) in
+      let s : set (pad k z (take i xs)) (length (take i xs)) x ≡ pad k z (take i xs ++ x ∷ []) = set-pad k z (take i xs) x (rw n l) in
+      rw (add-one, take-suc xs i d h, ← e) (rw n at s)
+
+  -- its first elements are the list
+  pub take-pad : (k : ℕ) (z : A) (xs : List A) → length xs ≤ k → take (length xs) (pad k z xs) ≡ xs
+  unfolding pad
+  take-pad zero z [] h = refl
+  take-pad zero z (x ∷ xs) h = absurd (not-suc-le-zero h)
+  take-pad (suc k) z [] h = refl
+  take-pad (suc k) z (x ∷ xs) h = ap (λ (l : List A). x ∷ l) (take-pad k z xs (le-of-suc-le-suc h))

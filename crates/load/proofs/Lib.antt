@@ -4,3 +4,6 @@ pub mod Shares
 pub mod Stretch
 pub mod LeastRatio
 pub mod BoundBy
+pub mod RowsBy
+pub mod InRange
+pub mod Weighing

@@ -19,14 +19,14 @@ use Rattle.least.specs.Round.{ceilDiv}
 use Rattle.least.specs.Lists.{sum, greatest, nthOr, behind, everyBehind}
 use Rattle.least.specs.Each.{Each}
 use Rattle.least.specs.Each.Each.{none, more}
-use Rattle.least.specs.Fraction.{frac, noBound, _⊑_, _⊏_, atMost, greatestOf}
+use Rattle.least.specs.Fraction.{frac, noBound, _⊑_, _⊏_, greatestOf}
 use Rattle.least.proofs.Each.{each-map}
 use Rattle.least.proofs.Round.{ceil-mono}
 use Rattle.least.proofs.Search.{any-iff}
 use Rattle.least.proofs.Lists.{nth-get}
 use Rattle.least.proofs.Along.{along-iff}
-use Rattle.least.proofs.Fraction.{Ok, Finite, AllOk, Reached, FirstGreatest, cond-le, atMost-true, atMost-false, ⊑-refl, ⊑-noBound, not-⊏, greater-ind, greater-left, greater-right, noBound-not-finite, finite-below, leastOver-ok, leastOver-below, leastOver-mono, leastOver-reached, greatestOf-ok, greatestOf-above, greatestOf-member, first-if-any, greatestOf-mono}
-use Rattle.least.proofs.First.{first-is}
+use Rattle.least.proofs.Fraction.{Ok, Finite, AllOk, Reached, FirstGreatest, cond-le, ⊑-noBound, not-⊏, greater-ind, greater-left, greater-right, noBound-not-finite, finite-below, leastOver-ok, leastOver-below, leastOver-mono, leastOver-reached, greatestOf-ok, greatestOf-above, greatestOf-member, first-if-any, greatestOf-mono}
+use Rattle.least.proofs.First.{first-greatest}
 use Rattle.load.specs.declared.Row.{Row}
 use Rattle.load.specs.Load.{rowSum, demandOf, loadAt, rowPasses, passesSystem, ratio, boundOf, boundsOf, loadOf, loadRow}
 
@@ -42,6 +42,10 @@ ratio-none L t h = simp (lt-leb L t h)
 pub ratio-ok : (L t : ℕ) → 1 ≤ t → Ok (ratio L t)
 unfolding ratio
 ratio-ok L t h = cond-le Ok L t (λ _. record { some = omega arith }) (λ _. record { some = omega arith })
+
+ratio-small : (L t P : ℕ) → 1 ≤ P → t ≤ P → (ratio L t .num ≤ P) × (ratio L t .den ≤ P)
+unfolding ratio
+ratio-small L t P h k = cond-le (λ (x : Frac). (x .num ≤ P) × (x .den ≤ P)) L t (λ l. (omega arith, k)) (λ _. (h, omega arith))
 
 -- a ratio with a positive denominator
 record Ratio (L t M u : ℕ) : Type 0 where
@@ -96,6 +100,13 @@ module _ (lower : List Row) (s : Row) (higher : List Row) where
   unfolding boundOf
   bound-paper L t e h =
       ⊎-elim (λ n. let z : 0 ≡ t = ap (λ x. x .den) (sym n ∙ e) in absurd (omega arith)) (bound-reached L t e h)
+      (leastOver-reached (λ u. ratio (loadAt lower s higher u) u) (λ u k. ratio-ok _ u k) (s .period))
+
+  -- its numbers are at most the period
+  pub boundOf-small : 1 ≤ s .period → (boundOf lower s higher .num ≤ s .period) × (boundOf lower s higher .den ≤ s .period)
+  unfolding boundOf
+  boundOf-small h =
+      ⊎-elim (λ e. rw e (h, omega arith)) (λ r. rw (r .value) (ratio-small _ (r .at) (s .period) h (r .within)))
       (leastOver-reached (λ u. ratio (loadAt lower s higher u) u) (λ u k. ratio-ok _ u k) (s .period))
 
   -- only one fraction is such a bound
@@ -218,10 +229,9 @@ pub record LoadRow (rows : List Row) (k : ℕ) : Type 0 where
   pub value : nthOr (frac 0 1) k (boundsOf rows) ≡ loadOf rows
   pub before : (j : ℕ) → 1 ≤ j → j < k → nthOr (frac 0 1) j (boundsOf rows) ⊏ loadOf rows
 
-pub loadRow-place : (rows : List Row) (j : ℕ) → FirstGreatest (boundsOf rows) j → loadRow rows ≡ suc j
+loadRow-place : (rows : List Row) (j : ℕ) → FirstGreatest (boundsOf rows) j → loadRow rows ≡ suc j
 unfolding loadRow loadOf
-loadRow-place rows j f =
-    first-is (frac 0 1) (atMost (loadOf rows)) j (boundsOf rows) (f .within) (rw (f .value) (atMost-true (loadOf rows) (loadOf rows) (⊑-refl _))) (λ k h. atMost-false (loadOf rows) _ (f .before k h))
+loadRow-place rows j f = first-greatest (boundsOf rows) j f
 
 loadRow-at : (rows : List Row) (j : ℕ) → FirstGreatest (boundsOf rows) j → LoadRow rows (suc j)
 unfolding loadOf

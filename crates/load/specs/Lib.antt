@@ -1,3 +1,4 @@
 pub mod Load
 pub mod Weigh
 pub mod ByColumn
+pub mod Code

@@ -3,11 +3,11 @@
 --   weighQuestions rows == questions 12 (0 for a wrong row count, else the first bad row) and 13 (first row without a time t)
 --   weighOf rows == the answer, for every list of rows
 --   rowsOf rows  == the rows that the struct `Rows` holds
+--   weighRows rows == the answer, for every such struct: a count above its sixteen places is a wrong row count too
 -- Assumes nothing.
-use Prim.Native.Nat.{ℕ}
-use mathlib.Core.Bool.{Bool, not, _&&_}
+use mathlib.Core.Bool.{Bool, not, cond, _&&_}
 use mathlib.Core.List.{List, [], _∷_}
-use lib.Dec.{leb, eqb}
+use lib.Dec.{leb}
 use lib.ListN.{length, take}
 use Rattle.least.specs.declared.Frac.{Frac}
 use Rattle.least.specs.Lists.{every, firstOf, pad}
@@ -45,3 +45,6 @@ weighOf rows = weighed (firstNo (weighQuestions rows)) rows
 
 unfoldable pub rowsOf : Rows → List Row
 rowsOf rows = take (rows .count) (rows .rows)
+
+unfoldable pub weighRows : Rows → Weighed
+weighRows rows = cond (leb (rows .count) rowLimit) (weighOf (rowsOf rows)) (weighed (Refused (BadHandSet 0)) [])

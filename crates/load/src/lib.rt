@@ -1,13 +1,23 @@
 // The system test of rows, their bounds and their load.
 use least::Frac;
 use refusal::Outcome;
+use refusal::Refusal;
 ghost use mathlib.Core.Path.{_≡_};
+ghost use mathlib.Core.Bool.{not};
 ghost use mathlib.Core.List.{[]};
 ghost use Prim.Native.Nat.{_+_, _*_, _/_, _^_, min, _≤_, _<_};
-ghost use lib.ListN.{drop};
+ghost use lib.ListN.{length, drop, take};
 ghost use Rattle.least.specs.Round.{ceilDiv};
-ghost use Rattle.load.specs.Load.{row, ratio, boundOf};
-ghost use Rattle.load.specs.ByColumn.{sharesOf, FinePeriods, FineShares, DemandIs, SameUntil};
+ghost use Rattle.least.specs.Lists.{firstOf, pad};
+ghost use Rattle.least.specs.Fraction.{atMost, greatestOf};
+ghost use Rattle.refusal.specs.declared.Outcome.the-variants.{Refused};
+ghost use Rattle.load.specs.Load.{row, rowSum, ratio, boundOf, boundsOf};
+ghost use Rattle.load.specs.Weigh.{rowInRange, hasTime, weighed, weighOf, rowsOf, weighRows};
+ghost use Rattle.load.specs.ByColumn.{sharesOf, rowsBy, FinePeriods, FineShares, FineColumns, DemandIs, SameUntil};
+ghost use Rattle.load.specs.Code.{noFrac, FineRows, ColumnsAre, InRange, FineBounds};
+
+// The greatest number of a row.
+const LIMIT: u64 = 65535;
 
 // A row: a period P, a budget Q and a holding time X.
 pub struct Row {
@@ -127,4 +137,189 @@ pub fn bound_of(
         }
     }
     ratio_of(num, den)
+}
+
+// Every row's bound; 0/0 in the places that no row has.
+pub fn bounds_of(
+    periods: &[u64; 16],
+    sums: &[u64; 16],
+    holdings: &[u64; 16],
+    n: usize,
+) -> [Frac; 16]
+    requires { ⌜ FineColumns (now periods) (now sums) (now holdings) n ⌝ }
+    ensures { λ r. ⌜ r ≡ pad 16 noFrac (boundsOf (rowsBy (now (periods .entry)) (now (sums .entry)) (now (holdings .entry)) n)) ⌝ }
+{
+    let mut bounds = [Frac { num: 0, den: 0 }; 16];
+    let mut blocking: u64 = 0;
+    let mut s = 0;
+    while s < n {
+        bounds[s] = bound_of(periods, sums, n, s + 1, periods[s], sums[s] + blocking);
+        blocking = least::larger(blocking, holdings[s]);
+        s += 1;
+    }
+    bounds
+}
+
+// The rows by columns: arrays can be lent to a loop, a struct would be copied.
+pub struct RowColumns {
+    pub periods: [u64; 16],
+    pub sums: [u64; 16],
+    pub holdings: [u64; 16],
+}
+
+// What a row costs.
+fn row_sum(r: Row) -> u64
+    requires { ⌜ (r .budget ≤ 2 ^ 20) × (r .holding ≤ 2 ^ 20) ⌝ }
+    ensures { λ x. ⌜ x ≡ rowSum r ⌝ }
+{
+    r.budget + r.holding
+}
+
+pub fn columns_of(rows: Rows) -> RowColumns
+    requires { ⌜ FineRows rows ⌝ }
+    ensures { λ c. ⌜ ColumnsAre rows c ⌝ }
+{
+    let n = rows.count;
+    let mut periods = [0u64; 16];
+    let mut sums = [0u64; 16];
+    let mut holdings = [0u64; 16];
+    let mut k = 0;
+    while k < n {
+        let r = rows.rows[k];
+        periods[k] = r.period;
+        sums[k] = row_sum(r);
+        holdings[k] = r.holding;
+        k += 1;
+    }
+    RowColumns {
+        periods,
+        sums,
+        holdings,
+    }
+}
+
+// Whether a row may be weighed.
+fn row_in_range(r: Row) -> bool
+    ensures { λ b. ⌜ b ≡ rowInRange r ⌝ }
+{
+    if r.budget < 1 {
+        return false;
+    }
+    if r.period < r.budget {
+        return false;
+    }
+    if LIMIT < r.period {
+        return false;
+    }
+    if LIMIT < r.holding {
+        return false;
+    }
+    true
+}
+
+// The number of the first row that may not be weighed; 0 where there is none.
+fn first_bad(rows: Rows) -> usize
+    requires { ⌜ (rows .count ≤ 16) × (rows .count ≤ length (rows .rows)) ⌝ }
+    ensures { λ k. ⌜ k ≡ firstOf (λ r. not (rowInRange r)) (rowsOf rows) ⌝ }
+{
+    let n = rows.count;
+    let mut k = 0;
+    while k < n {
+        let r = rows.rows[k];
+        if row_in_range(r) {
+            k += 1;
+        } else {
+            return k + 1;
+        }
+    }
+    0
+}
+
+// The number of the first of n bounds behind which there is no time; 0 where there is none.
+fn first_late(bounds: [Frac; 16], n: usize) -> usize
+    requires { ⌜ (n ≤ 16) × (n ≤ length bounds) ⌝ }
+    ensures { λ k. ⌜ k ≡ firstOf (λ b. not (hasTime b)) (take n bounds) ⌝ }
+{
+    let mut k = 0;
+    while k < n {
+        let b = bounds[k];
+        if b.den < 1 {
+            return k + 1;
+        }
+        k += 1;
+    }
+    0
+}
+
+// The number of the first of n bounds that reaches the greatest.
+fn greatest_row(bounds: [Frac; 16], n: usize) -> usize
+    requires { ⌜ FineBounds bounds n × (1 ≤ n) × (n ≤ 16) ⌝ }
+    ensures { λ k. ⌜ k ≡ firstOf (atMost (greatestOf (take n bounds))) (take n bounds) ⌝ }
+{
+    let mut j = 0;
+    let mut k = 1;
+    while k < n {
+        let a = bounds[j];
+        let b = bounds[k];
+        if least::is_less(a, b) {
+            j = k;
+        }
+        k += 1;
+    }
+    j + 1
+}
+
+// The answer to rows that are not weighed.
+fn refused(r: Refusal) -> Weighed
+    ensures { λ w. ⌜ w ≡ weighed (Refused r) [] ⌝ }
+{
+    Weighed {
+        outcome: Outcome::Refused(r),
+        bounds: [Frac { num: 0, den: 0 }; 16],
+        load: Frac { num: 0, den: 0 },
+        row: 0,
+    }
+}
+
+// Weighs rows in range: question 13, then every row's bound, the load and the first row that reaches it.
+fn weigh_in_range(rows: Rows) -> Weighed
+    requires { ⌜ InRange rows ⌝ }
+    ensures { λ w. ⌜ w ≡ weighOf (rowsOf rows) ⌝ }
+{
+    let n = rows.count;
+    let columns = columns_of(rows);
+    let periods = columns.periods;
+    let sums = columns.sums;
+    let holdings = columns.holdings;
+    let bounds = bounds_of(&periods, &sums, &holdings, n);
+    let late = first_late(bounds, n);
+    if 0 < late {
+        return refused(Refusal::NoTime(late as u64));
+    }
+    let row = greatest_row(bounds, n);
+    let load = bounds[row - 1];
+    Weighed {
+        outcome: Outcome::Done,
+        bounds,
+        load,
+        row: row as u64,
+    }
+}
+
+// Weighs rows set by hand: questions 12 and 13, every row's bound, the load and the first row that reaches it.
+pub fn weigh(rows: Rows) -> Weighed
+    ensures { λ w. ⌜ w ≡ weighRows rows ⌝ }
+{
+    let n = rows.count;
+    if n < 1 {
+        return refused(Refusal::BadHandSet(0));
+    }
+    if 16 < n {
+        return refused(Refusal::BadHandSet(0));
+    }
+    let bad = first_bad(rows);
+    if 0 < bad {
+        return refused(Refusal::BadHandSet(bad as u64));
+    }
+    weigh_in_range(rows)
 }
