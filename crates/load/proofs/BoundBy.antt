@@ -27,8 +27,8 @@ module _ (periods sums : List ℕ) (n s period own : ℕ) where
   abbrev pub BestBy : ℕ → ℕ → ℕ → Type 0
   BestBy done num den = Best loadBy period done num den
 
-  pub bound-start : BestBy 0 (period + 1) period
-  bound-start = best-start loadBy period
+  pub bound-start : (num : ℕ) → num ≡ period + 1 → BestBy 0 num period
+  bound-start num e = rw e (best-start loadBy period)
 
   pub bound-end : (done num den : ℕ) → BestBy done num den → period ≤ done → boundOf [] (row period own 0) (drop s (sharesOf periods sums n)) ≡ ratio num den
   unfolding boundOf

@@ -20,7 +20,7 @@ add-num c = omega arith
 loop-holds : tie.Need-loop-holds Inv-loop μ-loop
 loop-holds c =
     let a = c .args in
-    (bound-start (a .periods .now) (a .sums .now) (a .n) (a .s) (a .period) (a .own), omega arith)
+    (bound-start (a .periods .now) (a .sums .now) (a .n) (a .s) (a .period) (a .own) _ (omega arith), omega arith)
 
 add-demand-from : tie.Need-add-demand-from Inv-loop μ-loop
 add-demand-from c = omega arith
