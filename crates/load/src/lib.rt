@@ -168,7 +168,7 @@ pub struct RowColumns {
 }
 
 // What a row costs.
-fn row_sum(r: Row) -> u64
+pub fn row_sum(r: Row) -> u64
     requires { ⌜ (r .budget ≤ 2 ^ 20) × (r .holding ≤ 2 ^ 20) ⌝ }
     ensures { λ x. ⌜ x ≡ rowSum r ⌝ }
 {
