@@ -4,14 +4,14 @@ use Prim.Native.Nat.{ℕ, _+_, _≤_, _<_, min}
 use native.Mathlib.Nat.{add-suc, suc-add, add-zero}
 use native.Mathlib.Numerals.{add-one}
 use native.Mathlib.Omega.{arith}
-use mathlib.Core.Path.{_≡_, refl, _∙_}
-use mathlib.Core.Bool.{Bool, true, false, cond, and-false}
+use mathlib.Core.Path.{_≡_, refl, ap, _∙_}
+use mathlib.Core.Bool.{Bool, true, false, cond, _&&_, and-false}
 use mathlib.Core.List.{List, [], _∷_, _++_, append-assoc, append-nil}
-use borrow.Author.Tests.{eq-eqb, ne-eqb, ltb-true, ltb-false}
-use lib.Dec.{eqb, ltb}
+use borrow.Author.Tests.{eq-eqb, ne-eqb, leb-true, ltb-true, ltb-false}
+use lib.Dec.{leb, eqb, ltb}
 use lib.ListN.{length, drop, length-append, getD, drop-of-length-le}
 use lib.Seq.{drop-cons}
-use Rattle.least.proofs.Lists.{every-none, every-pass, every-fail}
+use Rattle.least.proofs.Lists.{and-iff, every-none, every-pass, every-fail}
 use Rattle.least.proofs.Pad.{set-pad, pad-full}
 use Rattle.scan.specs.declared.Tabs.{Tabs}
 use Rattle.scan.specs.declared.Scanned.{Scanned}
@@ -74,11 +74,23 @@ module _ (s : List ℕ) (i : ℕ) (ts : List ℕ) (h : i < length s) where
   pub at-newline : getD s i 0 ≡ 10 → lineFrom (drop i s) i ts ≡ goodAt i (firstFive ts)
   at-newline e = rw (drop-cons s i 0 h) (from-newline _ _ _ _ e)
 
-  pub at-forbidden : (getD s i 0 ≡ 10 → ⊥) → isAllowed (getD s i 0) ≡ false → lineFrom (drop i s) i ts ≡ notGood
-  at-forbidden n a = rw (drop-cons s i 0 h) (from-forbidden _ _ _ _ n a)
-
-  pub at-more : (getD s i 0 ≡ 10 → ⊥) → isAllowed (getD s i 0) ≡ true → lineFrom (drop i s) i ts ≡ lineFrom (drop (i + 1) s) (i + 1) (with ts (getD s i 0) i)
+  at-more : (getD s i 0 ≡ 10 → ⊥) → isAllowed (getD s i 0) ≡ true → lineFrom (drop i s) i ts ≡ lineFrom (drop (i + 1) s) (i + 1) (with ts (getD s i 0) i)
   at-more n a = rw (drop-cons s i 0 h) (from-more _ _ _ _ n a ∙ rw add-one)
+
+  pub at-plain : leb 33 (getD s i 0) && leb (getD s i 0) 126 ≡ true → lineFrom (drop i s) i ts ≡ lineFrom (drop (i + 1) s) (i + 1) ts
+  unfolding isAllowed
+  at-plain e =
+      let l : 33 ≤ getD s i 0 = leb-true 33 _ (and-iff _ _ .0 e .0) in
+      let n : eqb (getD s i 0) 9 ≡ false = ne-eqb (getD s i 0) 9 (λ q. absurd (omega (arith, l, q))) in
+      at-more (λ q. absurd (omega (arith, l, q))) (simp (n, e)) ∙ ap (lineFrom (drop (i + 1) s) (i + 1)) (ap (λ (t : Bool). ts ++ cond t (i ∷ []) []) n ∙ append-nil ts)
+
+  pub at-tab : getD s i 0 ≡ 9 → lineFrom (drop i s) i ts ≡ lineFrom (drop (i + 1) s) (i + 1) (with ts (getD s i 0) i)
+  unfolding isAllowed
+  at-tab e = at-more (λ q. absurd (omega (arith, e, q))) (simp (eq-eqb _ 9 e))
+
+  pub at-forbidden : leb 33 (getD s i 0) && leb (getD s i 0) 126 ≡ false → (getD s i 0 ≡ 9 → ⊥) → (getD s i 0 ≡ 10 → ⊥) → lineFrom (drop i s) i ts ≡ notGood
+  unfolding isAllowed
+  at-forbidden p m n = rw (drop-cons s i 0 h) (from-forbidden _ _ _ _ n (simp (ne-eqb _ 9 m, p)))
 
 pub at-end : (s : List ℕ) (i : ℕ) (ts : List ℕ) → length s ≤ i → lineFrom (drop i s) i ts ≡ notGood
 at-end s i ts h = rw (drop-of-length-le s h) (from-end i ts)

@@ -1,7 +1,8 @@
 // One pass over a line of the file: where it ends, whether question 2 holds, and where its first five tabs stand.
 ghost use mathlib.Core.Path.{_≡_};
 ghost use mathlib.Core.List.{[]};
-ghost use Rattle.scan.specs.Line.{isAllowed};
+ghost use mathlib.Core.Bool.{_&&_};
+ghost use lib.Dec.{leb};
 ghost use Rattle.scan.specs.Scan.{bytesOf, firstFive, markOf, lineAt};
 
 // A stretch of the file.
@@ -38,12 +39,10 @@ pub fn bytes(s: &[u8], p: Span) -> &[u8]
     &s[start..start + len]
 }
 
-fn is_allowed(b: u8) -> bool
-    ensures { λ r. ⌜ r ≡ isAllowed b ⌝ }
+// Bytes 33 to 126.
+fn is_plain(b: u8) -> bool
+    ensures { λ r. ⌜ r ≡ leb 33 b && leb b 126 ⌝ }
 {
-    if b == 9 {
-        return true;
-    }
     if b < 33 {
         return false;
     }
@@ -82,6 +81,15 @@ pub fn line_at(s: &[u8], at: usize) -> Scanned
     let mut i = at;
     while i < s.len() {
         let b = s[i];
+        if is_plain(b) {
+            i += 1;
+            continue;
+        }
+        if b == 9 {
+            t = mark(t, b, i);
+            i += 1;
+            continue;
+        }
         if b == 10 {
             return Scanned {
                 good: true,
@@ -89,16 +97,11 @@ pub fn line_at(s: &[u8], at: usize) -> Scanned
                 tabs: t,
             };
         }
-        if is_allowed(b) {
-            t = mark(t, b, i);
-            i += 1;
-        } else {
-            return Scanned {
-                good: false,
-                end: 0,
-                tabs: no_tabs(),
-            };
-        }
+        return Scanned {
+            good: false,
+            end: 0,
+            tabs: no_tabs(),
+        };
     }
     Scanned {
         good: false,

@@ -2,11 +2,11 @@
 -- Assumes nothing.
 use borrow.Author.Needs.{needs}
 use Prim.Native.Nat.{ℕ, _-_}
-use mathlib.Core.Path.{_≡_, _∙_}
+use mathlib.Core.Path.{_≡_, sym, _∙_}
 use mathlib.Core.List.{List, []}
 use lib.ListN.{length, drop, getD}
 use Rattle.scan.specs.Scan.{lineAt, firstFive}
-use Rattle.scan.proofs.Scan.{lineFrom, from-start, at-newline, at-forbidden, at-more, at-end, mark-firstFive, with}
+use Rattle.scan.proofs.Scan.{lineFrom, from-start, at-newline, at-forbidden, at-plain, at-tab, at-end, mark-firstFive, with}
 use Rattle.scan.proofs.line_at.Statement.{statement}
 use Rattle.scan.proofs.line_at.Tie as tie
 
@@ -25,16 +25,8 @@ loop-holds c = ([], c .no-tabs .ensures, from-start _ _)
 shared-slice-read-b : tie.Need-shared-slice-read-b Inv-loop μ-loop
 shared-slice-read-b c = search needs
 
-returns : tie.Need-returns Inv-loop μ-loop
-returns c =
-    let l = c .before .before .before in
-    cc (at-newline (l .before .before .before .args .s .now) (l .loop .i) (l .loop .inv .0) (c .before .before .loop-test .taken) (c .if1 .taken))
-
-is-allowed-requires : tie.Need-is-allowed-requires Inv-loop μ-loop
-is-allowed-requires c κs = search needs
-
-mark-requires : tie.Need-mark-requires Inv-loop μ-loop
-mark-requires c κs = search needs
+is-plain-requires : tie.Need-is-plain-requires Inv-loop μ-loop
+is-plain-requires c κs = search needs
 
 add-i : tie.Need-add-i Inv-loop μ-loop
 add-i c = search needs
@@ -44,21 +36,40 @@ loop-less c = search needs
 
 loop-again : tie.Need-loop-again Inv-loop μ-loop
 loop-again c =
+    let l = c .before .before .before .before in
+    let s = l .before .before .before .args .s .now in
+    (l .loop .inv .0, l .loop .inv .1, l .loop .inv .2 ∙ at-plain s (l .loop .i) (l .loop .inv .0) (c .before .before .before .loop-test .taken) (sym (c .before .is-plain .ensures) ∙ c .if1 .taken))
+
+mark-requires : tie.Need-mark-requires Inv-loop μ-loop
+mark-requires c κs = search needs
+
+add-i-2 : tie.Need-add-i-2 Inv-loop μ-loop
+add-i-2 c = search needs
+
+loop-less-2 : tie.Need-loop-less-2 Inv-loop μ-loop
+loop-less-2 c = search needs
+
+loop-again-2 : tie.Need-loop-again-2 Inv-loop μ-loop
+loop-again-2 c =
     let l = c .before .before .before .before .before .before in
     let s = l .before .before .before .args .s .now in (
       with (l .loop .inv .0) (getD s (l .loop .i) 0) (l .loop .i),
       c .mark .ensures ∙ rw (l .loop .inv .1) (mark-firstFive _ _ _),
-      l .loop .inv .2 ∙ at-more s (l .loop .i) (l .loop .inv .0) (search needs) (c .before .before .before .if1 .left) (cc),
+      l .loop .inv .2 ∙ at-tab s (l .loop .i) (l .loop .inv .0) (c .before .before .before .before .before .loop-test .taken) (c .before .if2 .taken),
     )
+
+returns : tie.Need-returns Inv-loop μ-loop
+returns c =
+    let l = c .before .before .before .before .before .before in
+    cc (at-newline (l .before .before .before .args .s .now) (l .loop .i) (l .loop .inv .0) (c .before .before .before .before .before .loop-test .taken) (c .if3 .taken))
 
 no-tabs-requires-2 : tie.Need-no-tabs-requires-2 Inv-loop μ-loop
 no-tabs-requires-2 c κs = search needs
 
 returns-2 : tie.Need-returns-2 Inv-loop μ-loop
 returns-2 c =
-    let l = c .before .before .before .before .before .before in
-    let s = l .before .before .before .args .s .now in
-    cc (at-forbidden s (l .loop .i) (l .loop .inv .0) (search needs) (c .before .before .before .if1 .left) (cc))
+    let l = c .before .before .before .before .before .before .before in
+    cc (at-forbidden (l .before .before .before .args .s .now) (l .loop .i) (l .loop .inv .0) (c .before .before .before .before .before .before .loop-test .taken) (sym (c .before .before .before .before .is-plain .ensures) ∙ c .before .before .before .if1 .left) (c .before .before .if2 .left) (c .before .if3 .left))
 
 no-tabs-requires-3 : tie.Need-no-tabs-requires-3 Inv-loop μ-loop
 no-tabs-requires-3 c κs = search needs
@@ -77,12 +88,15 @@ line-at-spec =
     no-tabs-requires
     loop-holds
     shared-slice-read-b
-    returns
-    is-allowed-requires
-    mark-requires
+    is-plain-requires
     add-i
     loop-less
     loop-again
+    mark-requires
+    add-i-2
+    loop-less-2
+    loop-again-2
+    returns
     no-tabs-requires-2
     returns-2
     no-tabs-requires-3
