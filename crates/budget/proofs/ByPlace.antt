@@ -2,9 +2,8 @@
 --   taskPassesAt P ts m σ Q k == the task at the place k of ts passes with Q under the setting σ
 -- Assumes nothing.
 use Prim.Native.Nat.{ℕ, suc, _+_, _<_}
-use native.Mathlib.Omega.{arith}
-use mathlib.Core.Path.{_≡_, refl, sym, ap, _∙_, fun-ext}
-use mathlib.Core.Bool.{Bool, true, false, false≢true}
+use mathlib.Core.Path.{_≡_, ap, fun-ext}
+use mathlib.Core.Bool.{Bool, true}
 use mathlib.Core.List.{List, reverse}
 use mathlib.Core.Logic.{_↔_}
 use lib.Dec.{leb}
@@ -25,14 +24,6 @@ module _ (P : ℕ) (ts : List Task) (m : ℕ) (σ : Setting) (Q : ℕ) where
   pub passes-places : (passes P ts m σ Q ≡ true) ↔ ((k : ℕ) → k < length ts → taskPassesAt P ts m σ Q k ≡ true)
   unfolding passes taskPassesAt
   passes-places = along-places _ blankTask ts
-
-  -- one task that fails is enough
-  pub fails-place : (k : ℕ) → k < length ts → taskPassesAt P ts m σ Q k ≡ false → passes P ts m σ Q ≡ false
-  fails-place k h f = go (passes P ts m σ Q) refl
-    where
-      go : (b : Bool) → passes P ts m σ Q ≡ b → passes P ts m σ Q ≡ false
-      go true t = absurd (false≢true (sym f ∙ passes-places .0 t k h))
-      go false t = t
 
 -- two tasks with the same C and the same deadline, below tasks that ask for the same, pass alike
 pub task-passes-same : (P Q b : ℕ) (task other : Task) (higher others : List Task) → task .cost ≡ other .cost → task .deadline ≡ other .deadline → ((w : ℕ) → demandIn higher w ≡ demandIn others w) → taskPasses P Q b task higher ≡ taskPasses P Q b other others

@@ -3,11 +3,10 @@
 --   Known ts y l c w == c is shown for lock l at y, held for w; or nothing is known of it yet, and c is its lowest ceiling
 -- Assumes nothing.
 use Prim.Native.Nat.{ℕ, suc, _+_, _-_, _^_, _≤_, _<_}
-use native.Mathlib.Nat.{le-trans}
 use native.Mathlib.Omega.{arith}
 use native.Mathlib.Decide.{decLe}
 use mathlib.Core.Path.{_≡_, refl, sym, ap, ap₂, _∙_, fun-ext}
-use mathlib.Core.Bool.{Bool, true, false, cond, false≢true}
+use mathlib.Core.Bool.{Bool, false, cond}
 use mathlib.Core.Logic.{_⊎_, inl, inr}
 use mathlib.Core.List.{List}
 use lib.Dec.{leb}
@@ -43,7 +42,7 @@ module _ (ts us : List Task) (same : (r w : ℕ) → demandIn (drop r ts) w ≡ 
   timed-same g limit (At r) = ap (λ (b : Least). Held r (numberOr0 b)) (hold-same g r limit)
   timed-same g limit Nothing = refl
 
-  lowest-held-same : (g limit x r : ℕ) → lowestHeld ts g limit x r ≡ lowestHeld us g limit x r
+  pub lowest-held-same : (g limit x r : ℕ) → lowestHeld ts g limit x r ≡ lowestHeld us g limit x r
   unfolding lowestHeld
   lowest-held-same g limit x r =
       timed-same g limit (leastFrom (λ k. within x (holdUpTo ts g k limit)) r (suc (length ts) - r))
@@ -60,7 +59,7 @@ hold-is ts l r = refl
 
 -- what is shown for lock l at x
 module _ (ts : List Task) (x l : ℕ) where
-  shown-within : shownAt ts x l ≡ withTime ts (greatestHeld l ts) (smallestDeadline l ts) (lowestWithin ts x l)
+  pub shown-within : shownAt ts x l ≡ withTime ts (greatestHeld l ts) (smallestDeadline l ts) (lowestWithin ts x l)
   unfolding lowestHeld holdingOf held holdUpTo
   shown-within = refl
 

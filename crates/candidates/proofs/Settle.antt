@@ -4,10 +4,10 @@
 -- Assumes nothing.
 use Prim.Native.Nat.{ℕ, zero, suc, _-_, _^_, _≤_, _<_}
 use native.Mathlib.Omega.{arith}
-use mathlib.Core.Path.{_≡_, refl, sym, ap, ap₂, _∙_}
-use mathlib.Core.List.{List, _∷_, map, map-map, List·Memᴰ}
-use lib.ListN.{length, getD, drop}
-use Rattle.least.specs.declared.Least.the-variants.{At, Nothing}
+use mathlib.Core.Path.{_≡_, sym, ap, ap₂, _∙_}
+use mathlib.Core.List.{List, map, map-map}
+use lib.ListN.{getD}
+use Rattle.least.specs.declared.Least.the-variants.{At}
 use Rattle.least.specs.Search.{numberOr0}
 use Rattle.least.specs.Lists.{greatest, countFrom, range}
 use Rattle.least.proofs.Lists.{map-same, count-from}
@@ -16,8 +16,7 @@ use Rattle.task_set.specs.declared.Task.{Task}
 use Rattle.task_set.specs.declared.Part.{Part}
 use Rattle.task_set.specs.declared.Columns.{Columns}
 use Rattle.task_set.specs.declared.Locks.{Locks}
-use Rattle.task_set.specs.Tasks.{demandIn, greatestHeld, smallestDeadline, tasksOf}
-use Rattle.task_set.specs.Blocking.{Setting}
+use Rattle.task_set.specs.Tasks.{greatestHeld, smallestDeadline, tasksOf}
 use Rattle.task_set.specs.Fine.{FinePart}
 use Rattle.task_set.specs.ByColumn.{timesOf, ColumnsAre}
 use Rattle.task_set.specs.ByLock.{LocksAre, settingOf}
@@ -26,10 +25,8 @@ use Rattle.task_set.proofs.Places.{tasks-length}
 use Rattle.task_set.proofs.Times.{times-length}
 use Rattle.task_set.proofs.ByColumn.{columns-demand}
 use Rattle.task_set.proofs.ByLock.{deadline-most}
-use Rattle.holding.specs.declared.Ceiling.{Ceiling}
-use Rattle.holding.specs.declared.Ceiling.the-variants.{Held, NotHeld}
+use Rattle.holding.specs.declared.Ceiling.the-variants.{Held}
 use Rattle.holding.specs.Holding.{holdingOf, holdingTimeOf}
-use Rattle.candidates.specs.declared.Raised.{Raised}
 use Rattle.candidates.specs.Candidates.{shownCeiling}
 use Rattle.candidates.specs.Statement.{Permitted}
 use Rattle.candidates.specs.Code.{nextCeiling, ceilingAt, heldTime}

@@ -1,15 +1,15 @@
 -- One turn of the search for the kept list: at x, the ceilings shown for x, their X and their least budget; then on from X − 1.
 --   SearchAt p c x ceilings times blocked budget == what the arrays say when the search has come to x
 -- Assumes nothing.
-use Prim.Native.Nat.{ℕ, zero, suc, _+_, _-_, _^_, _≤_, _<_}
-use native.Mathlib.Nat.{le-refl, le-trans}
+use Prim.Native.Nat.{ℕ, zero, suc, _-_, _^_, _≤_, _<_}
+use native.Mathlib.Nat.{le-trans}
 use native.Mathlib.Omega.{arith}
 use mathlib.Core.Path.{_≡_, refl, sym, ap, _∙_}
 use mathlib.Core.Bool.{Bool, true, false}
-use mathlib.Core.Logic.{_⊎_, inl, inr}
-use mathlib.Core.List.{List, [], map, List·Memᴰ}
+use mathlib.Core.Logic.{inl, inr}
+use mathlib.Core.List.{List, []}
 use lib.ListN.{length, getD, replicate}
-use Rattle.least.specs.declared.Least.the-variants.{At, Nothing}
+use Rattle.least.specs.declared.Least.the-variants.{At}
 use Rattle.least.specs.Lists.{greatest, countFrom}
 use Rattle.least.proofs.Search.{NoneIn, least-found}
 use Rattle.least.proofs.Lists.{map-same, count-from}
@@ -17,7 +17,7 @@ use Rattle.task_set.specs.declared.Task.{Task}
 use Rattle.task_set.specs.declared.Part.{Part}
 use Rattle.task_set.specs.declared.Columns.{Columns}
 use Rattle.task_set.specs.declared.Locks.{Locks}
-use Rattle.task_set.specs.Tasks.{lowestCeiling, tasksOf}
+use Rattle.task_set.specs.Tasks.{tasksOf}
 use Rattle.task_set.specs.Blocking.{Setting}
 use Rattle.task_set.specs.Fine.{FinePart}
 use Rattle.task_set.specs.ByColumn.{timesOf, ColumnsAre}
@@ -35,7 +35,7 @@ use Rattle.candidates.specs.Candidates.{keptList, shownCeiling}
 use Rattle.candidates.specs.Statement.{Permitted, Candidate}
 use Rattle.candidates.specs.Code.{ceilingAt, heldTime, RaisedIs, budgetStep, BudgetIs}
 use Rattle.candidates.proofs.Shown.{deadlines-holding, shown-budget}
-use Rattle.candidates.proofs.Walk.{sumOf, pushed, WalkedFrom, Walked, walk-start, walk-push, walk-next, walk-missed, walk-no-budget}
+use Rattle.candidates.proofs.Walk.{pushed, WalkedFrom, Walked, walk-start, walk-push, walk-next, walk-missed, walk-no-budget}
 use Rattle.candidates.proofs.Count.{Used, walked-count, count-121}
 use Rattle.candidates.proofs.Known.{shownAt, shown-held, shown-missed}
 use Rattle.candidates.proofs.Settle.{AllShown, AllKnown, next-at, shown-permitted, shown-most, setting-agrees, holding-greatest}

@@ -9,7 +9,7 @@ use Prim.Native.Nat.{ℕ, suc, _+_, _-_, _≤_, _<_}
 use native.Mathlib.Nat.{le-refl}
 use native.Mathlib.Omega.{arith}
 use native.Mathlib.Decide.{decLe, decLt}
-use mathlib.Core.Path.{_≡_, refl, sym, ap, _∙_, subst}
+use mathlib.Core.Path.{_≡_, refl, sym, ap, subst}
 use mathlib.Core.Logic.{_⊎_, inl, inr, ⊎-elim}
 use mathlib.Core.List.{List, [], _∷_, _++_, List·Memᴰ, List·Memᴰ·head, List·Memᴰ·tail, List·Memᴰ·not-nil, List·Memᴰ·append-cases, List·Memᴰ·eq-of-singleton, Memᴰ·cast, Memᴰ·append-left, Memᴰ·append-right}
 use lib.Dec.{ltb}
@@ -18,7 +18,7 @@ use Rattle.least.specs.declared.Least.the-variants.{At, Nothing}
 use Rattle.least.specs.Lists.{those}
 use Rattle.least.proofs.Lists.{those-member, those-passing}
 use Rattle.least.proofs.Those.{those-all, those-dropped}
-use Rattle.least.proofs.Pairwise.{Pairwise, pairwise-those, pairwise-map, pairwise-snoc, pairwise-front, pairwise-across, pairwise-members, pairwise-unique}
+use Rattle.least.proofs.Pairwise.{Pairwise, pairwise-those, pairwise-map, pairwise-snoc, pairwise-across, pairwise-members, pairwise-unique}
 use Rattle.task_set.specs.declared.Task.{Task}
 use Rattle.task_set.specs.Blocking.{Setting}
 use Rattle.holding.specs.Holding.{holdingTimeOf}
@@ -116,24 +116,6 @@ lighter-keep s cs c p l = those-all _ (cs ++ (c ∷ [])) (λ d k. lt-ltb (sumOf 
 
     last : (d : Pair) → List·Memᴰ d (c ∷ []) → sumOf d < s
     last d k = omega (arith, ap sumOf (List·Memᴰ·eq-of-singleton k))
-
--- `front` is left of cs after some pairs with a sum of at least s were dropped from its end
-pub record Popped (s : ℕ) (cs front : List Pair) : Type 0 where
-  pub same : lighter s front ≡ lighter s cs
-  pub ordered : Pairwise Behind front
-
-module _ (s : ℕ) (cs : List Pair) where
-  pub pop-start : Pairwise Behind cs → Popped s cs cs
-  pop-start p = record { same = refl; ordered = p }
-
-  pub pop-step : (front : List Pair) (c : Pair) → Popped s cs (front ++ (c ∷ [])) → s ≤ sumOf c → Popped s cs front
-  pop-step front c h l = record { same = sym (lighter-drop s front c l) ∙ h .same; ordered = pairwise-front front (c ∷ []) (h .ordered) }
-
-  pub pop-empty : Popped s cs [] → lighter s cs ≡ []
-  pop-empty h = sym (h .same) ∙ lighter-none s
-
-  pub pop-end : (front : List Pair) (c : Pair) → Popped s cs (front ++ (c ∷ [])) → sumOf c < s → lighter s cs ≡ front ++ (c ∷ [])
-  pop-end front c h l = sym (h .same) ∙ lighter-keep s front c (h .ordered) l
 
 -- the lighter pairs, and (Q,X) behind them
 abbrev pub pushed : ℕ → ℕ → List Pair → List Pair

@@ -11,7 +11,6 @@
 use Prim.Native.Nat.{ℕ, zero, suc, _+_, _^_, _≤_, _<_}
 use mathlib.Core.Path.{_≡_}
 use mathlib.Core.Bool.{true, false, cond}
-use mathlib.Core.Logic.{_⊎_}
 use mathlib.Core.List.{List, map}
 use lib.Dec.{leb, eqb}
 use lib.ListN.{getD, drop}
@@ -19,7 +18,6 @@ use Rattle.least.specs.declared.Least.{Least}
 use Rattle.least.specs.declared.Least.the-variants.{At, Nothing}
 use Rattle.least.specs.Lists.{greatest, countFrom}
 use Rattle.task_set.specs.declared.Task.{Task}
-use Rattle.task_set.specs.ByLock.{blockingBy}
 use Rattle.holding.specs.declared.Ceiling.{Ceiling}
 use Rattle.holding.specs.declared.Ceiling.the-variants.{Held, NotHeld}
 use Rattle.holding.specs.Code.{lowestHeld}

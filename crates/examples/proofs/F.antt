@@ -1,11 +1,10 @@
 -- Example F: the part of table 1 of document 001, doubled. Each of its eighteen settings is tried; that a budget passes and the one below
 -- does not shows which is least.
 -- Assumes nothing.
-use Prim.Native.Nat.{ℕ, _-_, _+_, _<_}
-use native.Mathlib.Omega.{arith}
+use Prim.Native.Nat.{ℕ, _-_, _+_}
 use mathlib.Core.Path.{_≡_, refl, sym, ap, ap₂, _∙_}
 use mathlib.Core.List.{List, [], _∷_, _++_, map}
-use mathlib.Core.Bool.{Bool, true, false, not, cond, _&&_, false≢true}
+use mathlib.Core.Bool.{Bool, true, false, not, _&&_, false≢true}
 use borrow.Author.Tests.{eqb-true, ltb-true, not-true}
 use lib.Dec.{eqb, ltb}
 use Rattle.least.specs.declared.Least.the-variants.{At}
@@ -19,7 +18,7 @@ use Rattle.holding.specs.Holding.{permitted, holdingTimeOf}
 use Rattle.budget.specs.Budget.{passes, leastBudget}
 use Rattle.budget.proofs.Passing.{budget-after}
 use Rattle.candidates.specs.declared.Pair.{Pair}
-use Rattle.candidates.specs.Candidates.{pair, pairWith, withCeiling, settings, candidateOf, candidatesIn, keptAmong, keptList}
+use Rattle.candidates.specs.Candidates.{pair, withCeiling, settings, candidateOf, candidatesIn, keptAmong, keptList}
 use Rattle.plan_file.specs.Numbers.{tasksIn, locksIn}
 use Rattle.plan_file.specs.Reading.{readFile}
 use Rattle.planner.specs.Parts.{keptPairs}

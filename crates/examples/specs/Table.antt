@@ -7,16 +7,15 @@
 use Prim.Native.Nat.{ℕ}
 use Prim.Native.String.{String}
 use mathlib.Core.Path.{_≡_}
-use mathlib.Core.Bool.{Bool, true, false, cond}
+use mathlib.Core.Bool.{Bool, true, false}
 use mathlib.Core.List.{List, [], _∷_}
-use lib.Dec.{eqb}
 use Rattle.least.specs.declared.Frac.{Frac}
 use Rattle.least.specs.Lists.{nthOr, some, pad}
 use Rattle.least.specs.Fraction.{frac}
 use Rattle.text.specs.Bytes.{bytes}
 use Rattle.refusal.specs.declared.Outcome.the-variants.{Done}
 use Rattle.refusal.specs.Number.{numberOf, placeOf}
-use Rattle.refusal.specs.Questions.{Answer, outcomeOf, whenAnswered}
+use Rattle.refusal.specs.Questions.{Answer, outcomeOf}
 use Rattle.refusal.specs.Questions.Answer.{answered, refused}
 use Rattle.candidates.specs.declared.Pair.{Pair}
 use Rattle.candidates.specs.Candidates.{pair, samePair, candidateOf}

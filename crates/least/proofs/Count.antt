@@ -2,7 +2,7 @@
 -- Assumes nothing.
 use Prim.Native.Nat.{ℕ, zero, suc}
 use mathlib.Core.Path.{_≡_, refl, ap}
-use mathlib.Core.List.{List, [], _∷_, map}
+use mathlib.Core.List.{List, _∷_, map}
 use Rattle.least.specs.Lists.{countFrom}
 
 pub count-suc : (n a : ℕ) → countFrom (suc a) n ≡ map suc (countFrom a n)

@@ -1,7 +1,7 @@
 -- The least w with f w ≤ w, for a monotone f, by iteration. A value with no solution below it, from 1 or from any start on, steps to f of it,
 -- which again has none below it; where f w ≤ w it is the least solution.
 -- Assumes nothing.
-use Prim.Native.Nat.{ℕ, suc, _+_, _≤_, _<_}
+use Prim.Native.Nat.{ℕ, _+_, _≤_, _<_}
 use native.Mathlib.Nat.{le-trans, lt-of-lt-of-le}
 use native.Mathlib.Omega.{arith}
 use native.Mathlib.Decide.{decLt}

@@ -18,7 +18,7 @@
 --   pad k z xs       == the first k elements of a list, z in the places that are left
 -- Assumes nothing.
 use Prim.Native.Nat.{ℕ, zero, suc, _+_, _-_, min, max}
-use mathlib.Core.Bool.{Bool, true, false, cond}
+use mathlib.Core.Bool.{Bool, true, false}
 use mathlib.Core.List.{List, [], _∷_, _++_}
 
 unfoldable pub sum : List ℕ → ℕ

@@ -1,6 +1,5 @@
 -- Two rows with equal bounds, 20/40 and 5/10: the load is shown with the first, as its own L and t.
 -- Assumes nothing.
-use Prim.Native.Nat.{ℕ}
 use mathlib.Core.Path.{_≡_, refl}
 use mathlib.Core.List.{List, [], _∷_}
 use Rattle.least.specs.Round.{ceilDiv}

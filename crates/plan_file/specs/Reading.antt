@@ -13,7 +13,6 @@ use lib.ListN.{length}
 use Rattle.least.specs.Lists.{isEmpty}
 use Rattle.text.specs.Bytes.{Line, linesOf, among, mention}
 use Rattle.text.specs.Decimal.{valueOf}
-use Rattle.refusal.specs.declared.Outcome.{Outcome}
 use Rattle.refusal.specs.declared.Outcome.the-variants.{Done, Refused}
 use Rattle.refusal.specs.declared.Refusal.the-variants.{FileTooLong, BadLine, BadRecord, Misplaced, BadName, KnownName, BadNumber, BadOrder, TooMany}
 use Rattle.refusal.specs.Limits.{fileLimit, partLimit, taskLimit, lockLimit}

@@ -1,9 +1,9 @@
 -- The kept pairs of a part, from what the reader hands on.
 -- Assumes nothing.
-use Prim.Native.Nat.{ℕ, zero, suc, _-_, _≤_, _<_}
+use Prim.Native.Nat.{ℕ, zero, suc, _-_, _≤_}
 use native.Mathlib.Omega.{arith}
 use mathlib.Core.Path.{_≡_, refl, sym, ap, ap₂, _∙_}
-use mathlib.Core.Bool.{true, false, not, _&&_}
+use mathlib.Core.Bool.{true, false, _&&_}
 use mathlib.Core.List.{List, [], _∷_}
 use lib.Dec.{leb}
 use lib.ListN.{length, getD}
@@ -27,7 +27,7 @@ use Rattle.reader.specs.Reader.{ReadIs}
 use Rattle.reader.proofs.Handed.{Handed}
 use Rattle.reader.proofs.Fine.{PartFine, handed-fine}
 use Rattle.planner.specs.Parts.{keptPairs}
-use Rattle.planner.specs.Answers.{isPartNumber, candidatesOf}
+use Rattle.planner.specs.Answers.{candidatesOf}
 use Rattle.planner.proofs.Named.{number-is}
 
 pub candidates-refused : (s : List ℕ) (k : ℕ) (r : Refusal) → readFile s ≡ refused r → candidatesOf s k ≡ refused r

@@ -1,12 +1,12 @@
 -- `budget::passing_time` meets its contract. The invariant: at no time below t is the need met.
 -- Assumes nothing.
-use Prim.Native.Nat.{ℕ, suc, _+_, _-_, _^_, _≤_, _<_}
+use Prim.Native.Nat.{ℕ, suc, _+_, _-_, _≤_}
 use mathlib.Core.Path.{_≡_, sym, ap, _∙_}
 use mathlib.Core.List.{List}
 use native.Mathlib.Numerals.{add-one}
 use native.Mathlib.Omega.{arith}
 use lib.ListN.{drop, getD}
-use Rattle.least.proofs.Iterate.{Mono, Unsolved, step-unsolved}
+use Rattle.least.proofs.Iterate.{Unsolved, step-unsolved}
 use Rattle.supply.proofs.SupplyLaws.{reach}
 use Rattle.task_set.specs.declared.Task.{Task}
 use Rattle.task_set.specs.Tasks.{demandIn}

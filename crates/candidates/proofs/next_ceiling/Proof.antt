@@ -1,8 +1,7 @@
 -- `candidates::next_ceiling` meets its contract.
 -- Assumes nothing.
-use Prim.Native.Nat.{ℕ, _^_}
 use native.Mathlib.Omega.{arith}
-use mathlib.Core.Path.{_≡_, refl, sym, _∙_}
+use mathlib.Core.Path.{sym, _∙_}
 use borrow.Author.Tests.{le-leb, lt-leb}
 use Rattle.candidates.specs.Code.{nextCeiling}
 use Rattle.candidates.proofs.next_ceiling.Statement.{statement}

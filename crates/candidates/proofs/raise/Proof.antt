@@ -1,14 +1,12 @@
 -- `candidates::raise` meets its contract. The invariant: the locks up to the place j have their next ceiling, the others still the old one.
 -- Assumes nothing.
-use Prim.Native.Nat.{ℕ, _+_, _-_, _≤_, _<_}
+use Prim.Native.Nat.{ℕ, _-_, _<_}
 use native.Mathlib.Omega.{arith}
 use borrow.Author.Needs.{needs}
-use mathlib.Core.Path.{_≡_, refl, sym, ap₂, _∙_}
+use mathlib.Core.Path.{_≡_, sym, ap₂, _∙_}
 use mathlib.Core.Bool.{false≢true}
-use mathlib.Core.List.{List}
-use lib.ListN.{length, getD}
+use lib.ListN.{getD}
 use Rattle.task_set.specs.ByColumn.{timesOf}
-use Rattle.holding.specs.declared.Ceiling.{Ceiling}
 use Rattle.candidates.specs.Code.{ceilingAt, nextCeiling}
 use Rattle.candidates.proofs.Raising.{RaisedTo, raised-start, raised-step, raised-holding}
 use Rattle.candidates.proofs.raise.Statement.{statement}

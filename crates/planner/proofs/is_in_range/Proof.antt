@@ -1,6 +1,5 @@
 -- `planner::is_in_range` meets its contract.
 -- Assumes nothing.
-use mathlib.Core.Path.{refl}
 use borrow.Author.Tests.{le-leb, lt-leb}
 use Rattle.planner.proofs.is_in_range.Statement.{statement}
 use Rattle.planner.proofs.is_in_range.Tie as tie

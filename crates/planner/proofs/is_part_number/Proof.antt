@@ -1,8 +1,6 @@
 -- `planner::is_part_number` meets its contract.
 -- Assumes nothing.
-use mathlib.Core.Path.{sym}
 use borrow.Author.Tests.{lt-leb, le-leb}
-use borrow.Author.Needs.{needs}
 use Rattle.planner.proofs.is_part_number.Statement.{statement}
 use Rattle.planner.proofs.is_part_number.Tie as tie
 

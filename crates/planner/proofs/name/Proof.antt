@@ -3,7 +3,6 @@
 use mathlib.Core.Path.{sym, ap, _∙_}
 use native.Mathlib.Omega.{arith}
 use borrow.Author.Needs.{needs}
-use Rattle.reader.specs.declared.PartRead.{PartRead}
 use Rattle.reader.proofs.Handed.{handed-refused, handed-done}
 use Rattle.planner.specs.Answers.{nameBytes}
 use Rattle.planner.proofs.Named.{name-refused, name-given, name-not-given, name-is, number-range}

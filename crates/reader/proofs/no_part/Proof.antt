@@ -1,7 +1,6 @@
 -- `reader::no_part` meets its contract: the array of tasks is one task sixteen times.
 -- Assumes nothing.
-use mathlib.Core.Path.{refl, ap₂, _∙_}
-use mathlib.Core.List.{List}
+use mathlib.Core.Path.{ap₂, _∙_}
 use lib.ListN.{replicate}
 use borrow.Author.Needs.{needs}
 use Rattle.least.specs.Lists.{pad}

@@ -1,6 +1,6 @@
 -- `reader::read_file` meets its contract. The invariant is `Reading`: what is left of the file decides, and the locals are what the lines above say.
 -- Assumes nothing.
-use Prim.Native.Nat.{ℕ, _-_, _≤_, _<_}
+use Prim.Native.Nat.{ℕ, _-_, _<_}
 use mathlib.Core.Path.{_≡_, sym, subst, _∙_}
 use mathlib.Core.List.{List, []}
 use lib.ListN.{length}
@@ -13,7 +13,7 @@ use Rattle.refusal.specs.declared.Refusal.the-variants.{FileTooLong, BadLine, M
 use Rattle.refusal.specs.Questions.Answer.{refused}
 use Rattle.records.specs.declared.Cursor.{Cursor}
 use Rattle.records.specs.declared.Shape.{Shape}
-use Rattle.records.specs.Cursor.{RecordIs, BrokenIs}
+use Rattle.records.specs.Cursor.{RecordIs}
 use Rattle.plan_file.specs.Reading.{readFile}
 use Rattle.plan_file.specs.Entries.{noSpan, noTaskRead, noneSeen, entryOf}
 use Rattle.reader.specs.declared.PlanFile.{PlanFile}

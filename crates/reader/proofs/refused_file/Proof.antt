@@ -1,12 +1,8 @@
 -- `reader::refused_file` meets its contract: the array of parts is one part sixteen times.
 -- Assumes nothing.
-use mathlib.Core.Path.{refl, ap, _∙_}
-use lib.ListN.{replicate}
+use mathlib.Core.Path.{refl}
 use borrow.Author.Needs.{needs}
 use Rattle.least.specs.Lists.{pad}
-use Rattle.refusal.specs.declared.Outcome.the-variants.{Refused}
-use Rattle.reader.specs.declared.PartRead.{PartRead}
-use Rattle.reader.specs.declared.PlanFile.{PlanFile}
 use Rattle.reader.specs.Reader.{refusedFile}
 use Rattle.reader.proofs.refused_file.Statement.{statement}
 use Rattle.reader.proofs.refused_file.Tie as tie

@@ -1,7 +1,6 @@
 -- `supply::reach_at` meets its contract: it is the inverse of the supply; its numbers are small.
 -- Assumes nothing.
 use Prim.Native.Nat.{_+_, _-_, _*_, _^_, _≤_}
-use mathlib.Core.Path.{refl}
 use native.Mathlib.Omega.{arith}
 use borrow.Author.Needs.{needs}
 use Rattle.supply.proofs.reach_at.Statement.{statement}
