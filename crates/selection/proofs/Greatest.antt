@@ -47,7 +47,7 @@ after-refl r = record { period = refl; sums = le-refl _; holds = le-refl _ }
 after-trans : {r s u : Row} → After r s → After s u → After r u
 after-trans h k = record { period = cc; sums = omega arith; holds = omega arith }
 
-after-asks : {r s : Row} → After r s → Asks r s
+pub after-asks : {r s : Row} → After r s → Asks r s
 after-asks a = record { period = a .period; sums = a .sums }
 
 after-member : {r s : Row} {rs : List Row} → Falling (r ∷ rs) → List·Memᴰ s rs → After r s
@@ -198,7 +198,7 @@ merged-or-after P (part {rows} {others} w ws) f (more {y = s} {ys = cs} m ms) =
     (part-merged P rows others (j .0) s (k .0) cs (first-member (j .1)) m (choices-iff others _ .0 (first-member (k .2)))
     (first-or-after w (j .1) m) (merged-or-after (λ d. P (j .0 ∷ d)) ws (k .2) ms))
 
-member-some : {A : Type 0} {x : A} {xs : List A} → List·Memᴰ x xs → 1 ≤ length xs
+pub member-some : {A : Type 0} {x : A} {xs : List A} → List·Memᴰ x xs → 1 ≤ length xs
 member-some (List·Memᴰ·head e) = omega arith
 member-some (List·Memᴰ·tail m) = omega arith
 

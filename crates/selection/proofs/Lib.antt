@@ -1,2 +1,5 @@
 pub mod Selection
 pub mod Greatest
+pub mod Places
+pub mod Lower
+pub mod Descent

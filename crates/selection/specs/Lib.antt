@@ -1,1 +1,2 @@
 pub mod Selection
+pub mod Code
