@@ -3,3 +3,5 @@ pub mod Greatest
 pub mod Places
 pub mod Lower
 pub mod Descent
+pub mod Leading
+pub mod Selecting

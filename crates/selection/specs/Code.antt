@@ -5,15 +5,28 @@
 --                         a part the holding time falls, and Q + X does not
 --   boundAt rows s     == the bound of the row at the place s
 --   heldBefore rows s  == what blocks it: the greatest holding time of the rows before it
+--   FinePlaces budgets holdings places n == each of n parts has a place below 121, with numbers up to 2^20
+--   ColumnsAre budgets holdings places n c == c holds the sums and the holding times of the rows at these places
+--   HeaviestIs rows best w == w is the bound and the blocking of a row; if this bound is below `best`, no row has a greater one
+--   MoverIs counts holdings places n x j == j is the first of n parts that holds for x, and has a next row; or there is no such part, and j is n
+--   ChoiceIs .. c     == c holds the first choice of least load, if any choice passes
 -- Assumes nothing.
-use Prim.Native.Nat.{ℕ, suc, _+_, _*_, _≤_, _<_}
+use Prim.Native.Nat.{ℕ, suc, _+_, _*_, _^_, _≤_, _<_}
+use mathlib.Core.Path.{_≡_}
+use mathlib.Core.Bool.{true}
 use mathlib.Core.List.{List, map, reverse}
-use lib.ListN.{getD, take}
+use lib.ListN.{length, getD, take}
 use Rattle.least.specs.declared.Frac.{Frac}
-use Rattle.least.specs.Lists.{greatest, countFrom}
+use Rattle.least.specs.Lists.{greatest, some, countFrom}
+use Rattle.least.specs.Fraction.{_⊑_, _⊏_}
 use Rattle.load.specs.declared.Row.{Row}
-use Rattle.load.specs.Load.{row, rowSum, boundsOf}
+use Rattle.load.specs.Load.{row, rowSum, boundsOf, passesSystem}
+use Rattle.load.specs.ByColumn.{rowsBy, FineColumns}
 use Rattle.load.specs.Code.{noFrac, FineRow}
+use Rattle.selection.specs.declared.Columns.{Columns}
+use Rattle.selection.specs.declared.Weight.{Weight}
+use Rattle.selection.specs.declared.Choice.{Choice}
+use Rattle.selection.specs.Selection.{choices, leastLoaded}
 
 abbrev pub offerAt : List ℕ → List ℕ → List ℕ → ℕ → ℕ → Row
 offerAt periods budgets holdings k i = row (getD periods k 0) (getD budgets (121 * k + i) 0) (getD holdings (121 * k + i) 0)
@@ -35,3 +48,33 @@ boundAt rows s = getD (boundsOf rows) s noFrac
 
 abbrev pub heldBefore : List Row → ℕ → ℕ
 heldBefore rows s = greatest (map (λ k. k .holding) (reverse (take s rows)))
+
+pub record FinePlaces (budgets holdings places : List ℕ) (n : ℕ) : Type 0 where
+  pub few : n ≤ 16
+  pub within : (k : ℕ) → k < n → getD places k 0 < 121
+  pub budgets-most : (k : ℕ) → k < n → getD budgets (121 * k + getD places k 0) 0 ≤ 2 ^ 20
+  pub holdings-most : (k : ℕ) → k < n → getD holdings (121 * k + getD places k 0) 0 ≤ 2 ^ 20
+
+pub record ColumnsAre (budgets holdings places : List ℕ) (n : ℕ) (c : Columns) : Type 0 where
+  pub sums : (k : ℕ) → k < n → getD (c .sums) k 0 ≡ getD budgets (121 * k + getD places k 0) 0 + getD holdings (121 * k + getD places k 0) 0
+  pub times : (k : ℕ) → k < n → getD (c .holdings) k 0 ≡ getD holdings (121 * k + getD places k 0) 0
+
+pub record HeaviestIs (rows : List Row) (best : Frac) (w : Weight) : Type 0 where
+  pub place : ℕ
+  pub within : place < length rows
+  pub bound : w .bound ≡ boundAt rows place
+  pub blocking : w .blocking ≡ heldBefore rows place
+  pub above : w .bound ⊏ best → (s : ℕ) → s < length rows → boundAt rows s ⊑ w .bound
+
+pub record MoverIs (counts holdings places : List ℕ) (n x j : ℕ) : Type 0 where
+  pub first : ℕ
+  pub within : first ≤ n
+  pub none : (k : ℕ) → k < first → getD holdings k 0 ≡ x → ⊥
+  pub holds : first < n → getD holdings first 0 ≡ x
+  pub moves : j < n → (j ≡ first) × (getD places first 0 + 1 < getD counts first 0)
+  pub stops : n ≤ j → first < n → getD counts first 0 ≤ getD places first 0 + 1
+
+pub record ChoiceIs (periods budgets holdings counts : List ℕ) (n : ℕ) (c : Choice) : Type 0 where
+  pub found : c .found ≡ some passesSystem (choices (offersOf periods budgets holdings counts n))
+  pub rows : c .found ≡ true → rowsBy periods (c .sums) (c .holdings) n ≡ leastLoaded (choices (offersOf periods budgets holdings counts n))
+  pub fine : c .found ≡ true → FineColumns periods (c .sums) (c .holdings) n

@@ -1,1 +1,147 @@
 // The choice of least load among the rows that each part offers.
+use least::Frac;
+ghost use mathlib.Core.Path.{_≡_};
+ghost use Prim.Native.Nat.{ℕ, _^_, _≤_, _<_};
+ghost use lib.ListN.{getD};
+ghost use Rattle.load.specs.ByColumn.{rowsBy, FineColumns};
+ghost use Rattle.selection.specs.Code.{FineOffers, FinePlaces, ColumnsAre, HeaviestIs, MoverIs, ChoiceIs};
+
+// A choice by columns: what each part's row costs, and its holding time.
+pub struct Columns {
+    pub sums: [u64; 16],
+    pub holdings: [u64; 16],
+}
+
+// The rows at the places of the parts.
+fn columns_at(
+    budgets: &[u64; 1936],
+    holdings: &[u64; 1936],
+    places: &[usize; 16],
+    n: usize,
+) -> Columns
+    requires { ⌜ FinePlaces (now budgets) (now holdings) (now places) n ⌝ }
+    ensures { λ c. ⌜ ColumnsAre (now (budgets .entry)) (now (holdings .entry)) (now (places .entry)) n c ⌝ }
+{
+    let mut sums = [0u64; 16];
+    let mut held = [0u64; 16];
+    let mut k = 0;
+    while k < n {
+        let i = 121 * k + places[k];
+        held[k] = holdings[i];
+        sums[k] = budgets[i] + holdings[i];
+        k += 1;
+    }
+    Columns {
+        sums,
+        holdings: held,
+    }
+}
+
+// The bound of a row, and what blocks the row.
+pub struct Weight {
+    pub bound: Frac,
+    pub blocking: u64,
+}
+
+// The first row whose bound is not below `best`; where there is none, a row that reaches the load.
+fn heaviest(
+    periods: &[u64; 16],
+    sums: &[u64; 16],
+    holdings: &[u64; 16],
+    n: usize,
+    best: Frac,
+) -> Weight
+    requires { ⌜ FineColumns (now periods) (now sums) (now holdings) n × (1 ≤ n) × (best .num < 2 ^ 32) × (best .den < 2 ^ 32) ⌝ }
+    ensures { λ w. ⌜ HeaviestIs (rowsBy (now (periods .entry)) (now (sums .entry)) (now (holdings .entry)) n) best w ⌝ }
+{
+    let mut bound = Frac { num: 0, den: 1 };
+    let mut blocking: u64 = 0;
+    let mut below: u64 = 0;
+    let mut s = 0;
+    while s < n {
+        let b = load::bound_of(periods, sums, n, s + 1, periods[s], sums[s] + below);
+        if !least::is_less(b, best) {
+            return Weight {
+                bound: b,
+                blocking: below,
+            };
+        }
+        if !least::is_less(b, bound) {
+            bound = b;
+            blocking = below;
+        }
+        below = least::larger(below, holdings[s]);
+        s += 1;
+    }
+    Weight { bound, blocking }
+}
+
+// The first part that holds for x, if it has a next row; n where no part is to move on.
+fn mover(
+    counts: &[usize; 16],
+    holdings: &[u64; 16],
+    places: &[usize; 16],
+    n: usize,
+    x: u64,
+) -> usize
+    requires { ⌜ (n ≤ 16) × ((k : ℕ) → k < n → getD (now places) k 0 < 121) ⌝ }
+    ensures { λ j. ⌜ MoverIs (now (counts .entry)) (now (holdings .entry)) (now (places .entry)) n x j ⌝ }
+{
+    let mut j = 0;
+    while j < n {
+        if holdings[j] == x {
+            if places[j] + 1 < counts[j] {
+                return j;
+            }
+            return n;
+        }
+        j += 1;
+    }
+    n
+}
+
+// The choice of least load, and whether it passes.
+pub struct Choice {
+    pub found: bool,
+    pub sums: [u64; 16],
+    pub holdings: [u64; 16],
+}
+
+// Starts from the greatest holding times and descends. Along the rows of a part the sum Q + X does not fall, so the bound of a row gets below the least load
+// so far only if its blocking falls: the lower part that causes this blocking moves on to its next row, and where it has none the search is over.
+pub fn select(
+    periods: &[u64; 16],
+    budgets: &[u64; 1936],
+    holdings: &[u64; 1936],
+    counts: &[usize; 16],
+    n: usize,
+) -> Choice
+    requires { ⌜ FineOffers (now periods) (now budgets) (now holdings) (now counts) n ⌝ }
+    ensures { λ c. ⌜ ChoiceIs (now (periods .entry)) (now (budgets .entry)) (now (holdings .entry)) (now (counts .entry)) n c ⌝ }
+{
+    let mut places = [0usize; 16];
+    let mut best = Frac { num: 1, den: 0 };
+    let mut sums = [0u64; 16];
+    let mut held = [0u64; 16];
+    loop {
+        let columns = columns_at(budgets, holdings, &places, n);
+        let costs = columns.sums;
+        let times = columns.holdings;
+        let weight = heaviest(periods, &costs, &times, n, best);
+        let bound = weight.bound;
+        if least::is_less(bound, best) {
+            best = bound;
+            sums = costs;
+            held = times;
+        }
+        let j = mover(counts, &times, &places, n, weight.blocking);
+        if n <= j {
+            return Choice {
+                found: 0 < best.den,
+                sums,
+                holdings: held,
+            };
+        }
+        places[j] += 1;
+    }
+}

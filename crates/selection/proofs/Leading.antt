@@ -1,0 +1,81 @@
+-- The search for a row that reaches the load, place by place.
+--   Ahead rows s bound blocking == a row before the place s has this bound and this blocking, and no row before s has a greater bound
+--   Leading rows s bound blocking == the same, or s is 0 and the bound 0/1
+-- Assumes nothing.
+use Prim.Native.Nat.{ℕ, _+_, _^_, _≤_, _<_}
+use native.Mathlib.Omega.{arith}
+use native.Mathlib.Decide.{ℕ-discrete}
+use mathlib.Core.Path.{_≡_, sym, _∙_}
+use mathlib.Core.Logic.{_⊎_, inl, inr}
+use mathlib.Core.List.{List, []}
+use lib.ListN.{length, getD, drop}
+use Rattle.least.specs.declared.Frac.{Frac}
+use Rattle.least.specs.Fraction.{frac, _⊑_, _⊏_}
+use Rattle.least.proofs.Fraction.{⊑-refl, ⊑-trans, ⊏-⊑}
+use Rattle.load.specs.declared.Row.{Row}
+use Rattle.load.specs.Load.{row, boundOf}
+use Rattle.load.specs.ByColumn.{sharesOf, rowsBy, FineColumns}
+use Rattle.load.specs.Code.{noRow}
+use Rattle.load.proofs.RowsBy.{rows-length, rows-get, bound-at}
+use Rattle.selection.specs.Code.{boundAt, heldBefore, HeaviestIs}
+use Rattle.selection.proofs.Lower.{boundAt-ok, boundAt-small}
+
+pub record Ahead (rows : List Row) (s : ℕ) (bound : Frac) (blocking : ℕ) : Type 0 where
+  pub place : ℕ
+  pub before : place < s
+  pub is : bound ≡ boundAt rows place
+  pub blocked : blocking ≡ heldBefore rows place
+  pub above : (k : ℕ) → k < s → boundAt rows k ⊑ bound
+
+abbrev pub Leading : List Row → ℕ → Frac → ℕ → Type 0
+Leading rows s bound blocking = ((s ≡ 0) × (bound ≡ frac 0 1)) ⊎ Ahead rows s bound blocking
+
+-- the same, with small numbers
+abbrev pub SmallLeading : List Row → ℕ → Frac → ℕ → Type 0
+SmallLeading rows s bound blocking = Leading rows s bound blocking × (bound .num ≤ 2 ^ 20) × (bound .den ≤ 2 ^ 20)
+
+pub leading-as : (rows : List Row) (s : ℕ) {b c : Frac} {x y : ℕ} → b ≡ c → x ≡ y → SmallLeading rows s c y → SmallLeading rows s b x
+leading-as rows s e f h = rw (e, f) h
+
+module _ (rows : List Row) (s : ℕ) (bound : Frac) (blocking : ℕ) (b : Frac) (is : b ≡ boundAt rows s) where
+  one-more : {x : Frac} → ((k : ℕ) → k < s → boundAt rows k ⊑ x) → b ⊑ x → (k : ℕ) → k < s + 1 → boundAt rows k ⊑ x
+  one-more {x} f h k l = go (ℕ-discrete k s)
+    where
+      go : Dec (k ≡ s) → boundAt rows k ⊑ x
+      go (yes e) = rw (e, ← is) h
+      go (no e) = f k (omega arith)
+
+  pub leading-stays : Leading rows s bound blocking → b ⊏ bound → Leading rows (s + 1) bound blocking
+  leading-stays (inl z) h = let k : b ⊏ frac 0 1 = rw (z .1) at h in absurd (omega (arith, k .cross))
+  leading-stays (inr a) h = inr (record { place = a .place; before = omega (arith, a .before); is = a .is; blocked = a .blocked; above = one-more (a .above) (⊏-⊑ h) })
+
+  pub leading-goes : (below : ℕ) → below ≡ heldBefore rows s → s < length rows → Leading rows s bound blocking → bound ⊑ b → Leading rows (s + 1) b below
+  leading-goes below e l d h = inr (record { place = s; before = omega arith; is = is; blocked = e; above = one-more (under d) (⊑-refl b) })
+    where
+      under : Leading rows s bound blocking → (k : ℕ) → k < s → boundAt rows k ⊑ b
+      under (inl z) k q = absurd (omega (arith, z .0))
+      under (inr a) k q = ⊑-trans (rw (a .is) (boundAt-ok rows (a .place) (omega (arith, a .before)))) (a .above k q) h
+
+module _ (periods sums holdings : List ℕ) (n : ℕ) (fine : FineColumns periods sums holdings n) where
+  abbrev R : List Row
+  R = rowsBy periods sums holdings n
+
+  pub bound-is : (s below : ℕ) (b : Frac) → s < n → below ≡ heldBefore R s → b ≡ boundOf [] (row (getD periods s 0) (getD sums s 0 + below) 0) (drop (s + 1) (sharesOf periods sums n)) → b ≡ boundAt R s
+  bound-is s below b h e q = rw e at q ∙ sym (bound-at periods sums holdings n fine s h)
+
+  pub bound-small : (s : ℕ) → s < n → (boundAt R s .num ≤ 2 ^ 20) × (boundAt R s .den ≤ 2 ^ 20)
+  bound-small s h =
+      let l : s < length R = omega (arith, rows-length periods sums holdings n) in
+      let p = fine .shares .fine in
+      let b = boundAt-small R s l (rw (rows-get periods sums holdings n s h) (p .some s h)) in
+      let e : getD R s noRow .period ≤ 2 ^ 20 = rw (rows-get periods sums holdings n s h) (p .most s h) in
+      (omega arith, omega arith)
+
+  -- a row whose bound is not below `best`; all rows were seen
+  pub heaviest-here : (best : Frac) (s below : ℕ) (b : Frac) → s < n → below ≡ heldBefore R s → b ≡ boundAt R s → (b ⊏ best → ⊥) → HeaviestIs R best (record { bound = b; blocking = below })
+  heaviest-here best s below b h e q none = record { place = s; within = omega (arith, rows-length periods sums holdings n); bound = q; blocking = e; above = λ l. absurd (none l) }
+
+  pub heaviest-of-all : (best : Frac) (s : ℕ) (bound : Frac) (blocking : ℕ) → 1 ≤ n → s ≡ n → Leading R s bound blocking → HeaviestIs R best (record { bound = bound; blocking = blocking })
+  heaviest-of-all best s bound blocking h e (inl z) = absurd (omega (arith, z .0))
+  heaviest-of-all best s bound blocking h e (inr a) =
+      record { place = a .place; within = omega (arith, a .before, rows-length periods sums holdings n); bound = a .is; blocking = a .blocked; above = λ _ k l. a .above k (omega (arith, rows-length periods sums holdings n)) }
