@@ -1,1 +1,68 @@
-// The lines that a plan prints.
+// The lines that a plan prints: how long they are, and how they are written at a place of a lent buffer.
+use least::Frac;
+use load::Row;
+use plan_file::Names;
+use scan::Span;
+ghost use mathlib.Core.Path.{_≡_};
+ghost use mathlib.Core.List.{[], _∷_};
+ghost use Prim.Native.Nat.{_+_, _^_, _≤_};
+ghost use lib.ListN.{length};
+ghost use Rattle.text.specs.Bytes.{lineOf};
+ghost use Rattle.text.specs.Decimal.{digitsOf};
+ghost use Rattle.scan.specs.Scan.{bytesOf};
+ghost use Rattle.plan_file.specs.Entries.{FineNames, namesOf};
+ghost use Rattle.writer.specs.Written.{Written};
+ghost use Rattle.listing.specs.Listing.{ceilingLine, shareLine, shareLines, loadLine, Ceiling};
+ghost use Rattle.listing.specs.Shares.{headOf, named, bare, ceilingsOf, ceilingLines, shareFrom};
+
+const TAB: u8 = 9;
+
+const NEWLINE: u8 = 10;
+
+// The first two fields of a line, each with the tab behind it.
+fn write_head(out: &mut [u8], at: usize, word: &[u8], name: &[u8]) -> usize
+    requires { ⌜ at + length (headOf (now word) (now name)) ≤ length (now out) ⌝ }
+    ensures { λ r. ⌜ Written at (headOf (now (word .entry)) (now (name .entry))) (now (out .entry)) (now (out .exit)) r ⌝ }
+{
+    let next = writer::write_word_field(out, at, word, TAB);
+    writer::write_word_field(out, next, name, TAB)
+}
+
+// The two numbers of a bound, at the end of a line.
+fn write_bound(out: &mut [u8], at: usize, bound: Frac) -> usize
+    requires { ⌜ at + length (lineOf (digitsOf (bound .num) ∷ digitsOf (bound .den) ∷ [])) ≤ length (now out) ⌝ }
+    ensures { λ r. ⌜ Written at (lineOf (digitsOf (bound .num) ∷ digitsOf (bound .den) ∷ [])) (now (out .entry)) (now (out .exit)) r ⌝ }
+{
+    let next = writer::write_number_field(out, at, bound.num, TAB);
+    writer::write_number_field(out, next, bound.den, NEWLINE)
+}
+
+// `load` NAME L t, of the part with this name and bound.
+pub fn write_load(file: &[u8], name: Span, bound: Frac, out: &mut [u8], at: usize) -> usize
+    requires { ⌜ at + length (loadLine (named (bytesOf (now file) name) bound)) ≤ length (now out) ⌝ }
+    ensures { λ r. ⌜ Written at (loadLine (named (bytesOf (now (file .entry)) name) bound)) (now (out .entry)) (now (out .exit)) r ⌝ }
+{
+    let next = write_head(out, at, b"load", scan::bytes(file, name));
+    write_bound(out, next, bound)
+}
+
+// `share` NAME P Q X L t.
+fn write_share_line(out: &mut [u8], at: usize, name: &[u8], row: Row, bound: Frac) -> usize
+    requires { ⌜ at + length (shareLine (bare (now name) row bound)) ≤ length (now out) ⌝ }
+    ensures { λ r. ⌜ Written at (shareLine (bare (now (name .entry)) row bound)) (now (out .entry)) (now (out .exit)) r ⌝ }
+{
+    let behind_name = write_head(out, at, b"share", name);
+    let behind_period = writer::write_number_field(out, behind_name, row.period, TAB);
+    let behind_budget = writer::write_number_field(out, behind_period, row.budget, TAB);
+    let behind_holding = writer::write_number_field(out, behind_budget, row.holding, TAB);
+    write_bound(out, behind_holding, bound)
+}
+
+// `ceiling` LOCK NUMBER.
+fn write_ceiling(out: &mut [u8], at: usize, lock: &[u8], number: u64) -> usize
+    requires { ⌜ at + length (ceilingLine (record { lock = now lock; number = number })) ≤ length (now out) ⌝ }
+    ensures { λ r. ⌜ Written at (ceilingLine (record { lock = now (lock .entry); number = number })) (now (out .entry)) (now (out .exit)) r ⌝ }
+{
+    let next = write_head(out, at, b"ceiling", lock);
+    writer::write_number_field(out, next, number, NEWLINE)
+}

@@ -69,9 +69,13 @@ pub record Left (at : ℕ) (piece before : List ℕ) (next : ℕ) (rest now : Li
   pub room : next + length rest ≤ length now
   pub long : length now ≡ length before
 
-module _ (at : ℕ) (piece before : List ℕ) where
-  pub left-start : at + length piece ≤ length before → Left at piece before at piece before
-  left-start h = record { same = refl; ends = refl; room = h; long = refl }
+pub left-start : (at : ℕ) (piece before : List ℕ) → at + length piece ≤ length before → Left at piece before at piece before
+left-start at piece before h = record { same = refl; ends = refl; room = h; long = refl }
+
+module _ {at : ℕ} {piece before : List ℕ} where
+  -- the rest in another form
+  pub left-as : {next : ℕ} {rest rest′ now : List ℕ} → rest ≡ rest′ → Left at piece before next rest now → Left at piece before next rest′ now
+  left-as {next} {now = now} e l = subst (λ (r : List ℕ). Left at piece before next r now) e l
 
   -- there is room for the first piece of the rest
   pub left-room : {next : ℕ} {now : List ℕ} (p rest : List ℕ) → Left at piece before next (p ++ rest) now → next + length p ≤ length now
@@ -94,15 +98,19 @@ module _ (at : ℕ) (piece before : List ℕ) where
   pub left-none : {next : ℕ} {now : List ℕ} → Left at piece before next [] now → Written at piece before now next
   left-none {next} {now} l = record { bytes = sym (written-none next now) ∙ l .same; place = sym (add-zero next) ∙ l .ends }
 
+  -- the last piece is written
+  pub left-last : {next next′ : ℕ} {p now now′ : List ℕ} → Left at piece before next p now → Written next p now now′ next′ → Written at piece before now′ next′
+  left-last {p = p} l w = left-none (left-more p [] (left-as (sym (append-nil p)) l) w)
+
 -- a word is copied: its byte i is written
 pub left-copied : (at : ℕ) (word before : List ℕ) (i : ℕ) (now : List ℕ) → i < length word → Left at word before (at + i) (drop i word) now
     → Left at word before (at + (i + 1)) (drop (i + 1) word) (set now (at + i) (getD word i 0))
 left-copied at word before i now h l =
     let x = getD word i 0 in
     let cut : Left at word before (at + i) (x ∷ drop (suc i) word) now = subst (λ (r : List ℕ). Left at word before (at + i) r now) (drop-cons word i 0 h) l in
-    let room : at + i + 1 ≤ length now = left-room at word before (x ∷ []) (drop (suc i) word) cut in
+    let room : at + i + 1 ≤ length now = left-room (x ∷ []) (drop (suc i) word) cut in
     let done : Left at word before (at + i + 1) (drop (suc i) word) (set now (at + i) x) =
-    left-more at word before (x ∷ []) (drop (suc i) word) cut (write-one (at + i) x now (omega arith)) in
+    left-more (x ∷ []) (drop (suc i) word) cut (write-one (at + i) x now (omega arith)) in
     let sum : at + i + 1 ≡ at + (i + 1) = omega arith in
     subst (λ (k : ℕ). Left at word before k (drop (i + 1) word) (set now (at + i) x)) sum
     (subst (λ (k : ℕ). Left at word before (at + i + 1) (drop k word) (set now (at + i) x)) (sym (add-one i)) done)
@@ -110,7 +118,7 @@ left-copied at word before i now h l =
 -- all of it is copied
 pub left-copied-all : (at : ℕ) (word before : List ℕ) (i : ℕ) (now : List ℕ) → length word ≤ i → Left at word before (at + i) (drop i word) now
     → Written at word before now (at + i)
-left-copied-all at word before i now h l = left-none at word before (subst (λ (r : List ℕ). Left at word before (at + i) r now) (drop-of-length-le word {i = i} h) l)
+left-copied-all at word before i now h l = left-none (subst (λ (r : List ℕ). Left at word before (at + i) r now) (drop-of-length-le word {i = i} h) l)
 
 -- a whole buffer is written from its start
 pub written-start : (p b : List ℕ) → written 0 p b ≡ p ++ drop (length p) b

@@ -4,7 +4,7 @@ use lib.ListN.{length-append}
 use native.Mathlib.Omega.{arith}
 use mathlib.Core.List.{[], _∷_, _++_}
 use Rattle.text.specs.Decimal.{digitsOf}
-use Rattle.writer.proofs.Written.{Left, left-start, left-more, left-none}
+use Rattle.writer.proofs.Written.{Left, left-start, left-more, left-last}
 use borrow.Author.Needs.{needs}
 use Rattle.writer.proofs.write_number_field.Statement.{statement}
 use Rattle.writer.proofs.write_number_field.Tie as tie
@@ -16,7 +16,7 @@ behind : (c : tie.After-write-number) →
 behind c =
     let s = c .before .before .before in
     let a = s .args in
-    left-more (a .at) (digitsOf (a .n) ++ a .end ∷ []) (a .out .now) (digitsOf (a .n)) (a .end ∷ [])
+    left-more (digitsOf (a .n)) (a .end ∷ [])
     (left-start (a .at) (digitsOf (a .n) ++ a .end ∷ []) (a .out .now) (s .pre))
     (c .write-number .ensures)
 
@@ -33,9 +33,7 @@ returns : tie.Need-returns
 returns c =
     let w = c .before .before in
     let l = w .before .before .before .before in
-    let a = l .before .before .before .args in
-    let piece = digitsOf (a .n) ++ a .end ∷ [] in
-    left-none (a .at) piece (a .out .now) (left-more (a .at) piece (a .out .now) (a .end ∷ []) [] (behind l) (w .write-byte .ensures))
+    left-last (behind l) (w .write-byte .ensures)
 
 pub write-number-field-spec : {M : Type 1} → statement M
 write-number-field-spec =

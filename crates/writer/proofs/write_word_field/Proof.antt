@@ -3,7 +3,7 @@
 use lib.ListN.{length-append}
 use native.Mathlib.Omega.{arith}
 use mathlib.Core.List.{[], _∷_, _++_}
-use Rattle.writer.proofs.Written.{Left, left-start, left-more, left-none}
+use Rattle.writer.proofs.Written.{Left, left-start, left-more, left-last}
 use borrow.Author.Needs.{needs}
 use Rattle.writer.proofs.write_word_field.Statement.{statement}
 use Rattle.writer.proofs.write_word_field.Tie as tie
@@ -15,7 +15,7 @@ behind : (c : tie.After-write-word) →
 behind c =
     let s = c .before .before .before .before in
     let a = s .args in
-    left-more (a .at) (a .word .now ++ a .end ∷ []) (a .out .now) (a .word .now) (a .end ∷ [])
+    left-more (a .word .now) (a .end ∷ [])
     (left-start (a .at) (a .word .now ++ a .end ∷ []) (a .out .now) (s .pre))
     (c .write-word .ensures)
 
@@ -32,9 +32,7 @@ returns : tie.Need-returns
 returns c =
     let w = c .before .before in
     let l = w .before .before .before .before in
-    let a = l .before .before .before .before .args in
-    let piece = a .word .now ++ a .end ∷ [] in
-    left-none (a .at) piece (a .out .now) (left-more (a .at) piece (a .out .now) (a .end ∷ []) [] (behind l) (w .write-byte .ensures))
+    left-last (behind l) (w .write-byte .ensures)
 
 pub write-word-field-spec : {M : Type 1} → statement M
 write-word-field-spec =
