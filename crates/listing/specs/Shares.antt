@@ -4,17 +4,19 @@
 --   bare name row bound == a share without its ceilings
 --   ceilingsOf names cs == each name with the number at its place, as a ceiling
 --   ceilingLines cs == a `ceiling` line for each of them
+--   FineLocks locks cs == at most 8 locks, counted within their places, each with a number at its place
 --   shareFrom s name row bound locks cs == the share whose names are stretches of the file s
 -- Assumes nothing.
-use Prim.Native.Nat.{ℕ}
+use Prim.Native.Nat.{ℕ, _≤_}
 use mathlib.Core.List.{List, [], _∷_, _++_, map}
+use lib.ListN.{length}
 use Rattle.least.specs.declared.Frac.{Frac}
 use Rattle.least.specs.Lists.{joined}
 use Rattle.load.specs.declared.Row.{Row}
 use Rattle.scan.specs.declared.Span.{Span}
 use Rattle.scan.specs.Scan.{bytesOf}
 use Rattle.plan_file.specs.declared.Names.{Names}
-use Rattle.plan_file.specs.Entries.{namesOf}
+use Rattle.plan_file.specs.Entries.{FineNames, namesOf}
 use Rattle.listing.specs.Listing.{Ceiling, Share, ceilingLine}
 
 unfoldable pub headOf : List ℕ → List ℕ → List ℕ
@@ -36,3 +38,8 @@ ceilingLines cs = joined (map ceilingLine cs)
 
 unfoldable pub shareFrom : List ℕ → Span → Row → Frac → Names → List ℕ → Share
 shareFrom s name row bound locks cs = record { name = bytesOf s name; row = row; bound = bound; ceilings = ceilingsOf (namesOf s locks) cs }
+
+pub record FineLocks (locks : Names) (cs : List ℕ) : Type 0 where
+  pub names : FineNames locks
+  pub few : locks .count ≤ 8
+  pub room : locks .count ≤ length cs

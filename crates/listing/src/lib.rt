@@ -10,10 +10,10 @@ ghost use lib.ListN.{length};
 ghost use Rattle.text.specs.Bytes.{lineOf};
 ghost use Rattle.text.specs.Decimal.{digitsOf};
 ghost use Rattle.scan.specs.Scan.{bytesOf};
-ghost use Rattle.plan_file.specs.Entries.{FineNames, namesOf};
+ghost use Rattle.plan_file.specs.Entries.{namesOf};
 ghost use Rattle.writer.specs.Written.{Written};
-ghost use Rattle.listing.specs.Listing.{ceilingLine, shareLine, shareLines, loadLine, Ceiling};
-ghost use Rattle.listing.specs.Shares.{headOf, named, bare, ceilingsOf, ceilingLines, shareFrom};
+ghost use Rattle.listing.specs.Listing.{ceilingLine, shareLine, shareLines, loadLine};
+ghost use Rattle.listing.specs.Shares.{headOf, named, bare, ceilingsOf, ceilingLines, shareFrom, FineLocks};
 
 const TAB: u8 = 9;
 
@@ -65,4 +65,116 @@ fn write_ceiling(out: &mut [u8], at: usize, lock: &[u8], number: u64) -> usize
 {
     let next = write_head(out, at, b"ceiling", lock);
     writer::write_number_field(out, next, number, NEWLINE)
+}
+
+// A `ceiling` line for each lock.
+fn write_ceilings(
+    file: &[u8],
+    locks: Names,
+    ceilings: &[u64; 8],
+    out: &mut [u8],
+    at: usize,
+) -> usize
+    requires { ⌜ FineLocks locks (now ceilings) ⌝ }
+    requires { ⌜ at + length (ceilingLines (ceilingsOf (namesOf (now file) locks) (now ceilings))) ≤ length (now out) ⌝ }
+    ensures { λ r. ⌜ Written at (ceilingLines (ceilingsOf (namesOf (now (file .entry)) locks) (now (ceilings .entry)))) (now (out .entry)) (now (out .exit)) r ⌝ }
+{
+    let n = locks.count;
+    let span = locks.span;
+    let mut next = at;
+    let mut i = 0;
+    while i < n {
+        let lock = span[i];
+        let number = ceilings[i];
+        next = write_ceiling(out, next, scan::bytes(file, lock), number);
+        i += 1;
+    }
+    next
+}
+
+// All lines of a part: its `share` line, and a `ceiling` line for each lock.
+pub fn write_share(
+    file: &[u8],
+    name: Span,
+    row: Row,
+    bound: Frac,
+    locks: Names,
+    ceilings: &[u64; 8],
+    out: &mut [u8],
+    at: usize,
+) -> usize
+    requires { ⌜ FineLocks locks (now ceilings) ⌝ }
+    requires { ⌜ at + length (shareLines (shareFrom (now file) name row bound locks (now ceilings))) ≤ length (now out) ⌝ }
+    ensures { λ r. ⌜ Written at (shareLines (shareFrom (now (file .entry)) name row bound locks (now (ceilings .entry)))) (now (out .entry)) (now (out .exit)) r ⌝ }
+{
+    let next = write_share_line(out, at, scan::bytes(file, name), row, bound);
+    write_ceilings(file, locks, ceilings, out, next)
+}
+
+// How long the two numbers of a bound are at the end of a line.
+fn bound_length(bound: Frac) -> usize
+    ensures { λ r. ⌜ (r ≡ length (lineOf (digitsOf (bound .num) ∷ digitsOf (bound .den) ∷ []))) × (r ≤ 42) ⌝ }
+{
+    writer::digit_count(bound.num) + writer::digit_count(bound.den) + 2
+}
+
+// How long the `load` line is.
+pub fn load_length(file: &[u8], name: Span, bound: Frac) -> usize
+    requires { ⌜ length (now file) ≤ 2 ^ 32 ⌝ }
+    ensures { λ r. ⌜ (r ≡ length (loadLine (named (bytesOf (now (file .entry)) name) bound))) × (r ≤ 2 ^ 33) ⌝ }
+{
+    let word = scan::bytes(file, name);
+    6 + word.len() + bound_length(bound)
+}
+
+fn share_line_length(name: &[u8], row: Row, bound: Frac) -> usize
+    requires { ⌜ length (now name) ≤ 2 ^ 32 ⌝ }
+    ensures { λ r. ⌜ (r ≡ length (shareLine (bare (now (name .entry)) row bound))) × (r ≤ 2 ^ 33) ⌝ }
+{
+    let period = writer::digit_count(row.period);
+    let budget = writer::digit_count(row.budget);
+    let holding = writer::digit_count(row.holding);
+    10 + name.len() + period + budget + holding + bound_length(bound)
+}
+
+fn ceiling_length(lock: &[u8], number: u64) -> usize
+    requires { ⌜ length (now lock) ≤ 2 ^ 32 ⌝ }
+    ensures { λ r. ⌜ (r ≡ length (ceilingLine (record { lock = now (lock .entry); number = number }))) × (r ≤ 2 ^ 33) ⌝ }
+{
+    10 + lock.len() + writer::digit_count(number)
+}
+
+fn ceilings_length(file: &[u8], locks: Names, ceilings: &[u64; 8]) -> usize
+    requires { ⌜ FineLocks locks (now ceilings) ⌝ }
+    requires { ⌜ length (now file) ≤ 2 ^ 32 ⌝ }
+    ensures { λ r. ⌜ (r ≡ length (ceilingLines (ceilingsOf (namesOf (now (file .entry)) locks) (now (ceilings .entry))))) × (r ≤ 2 ^ 36) ⌝ }
+{
+    let n = locks.count;
+    let span = locks.span;
+    let mut total = 0;
+    let mut i = 0;
+    while i < n {
+        let lock = span[i];
+        let number = ceilings[i];
+        total += ceiling_length(scan::bytes(file, lock), number);
+        i += 1;
+    }
+    total
+}
+
+// How long all lines of a part are.
+pub fn share_length(
+    file: &[u8],
+    name: Span,
+    row: Row,
+    bound: Frac,
+    locks: Names,
+    ceilings: &[u64; 8],
+) -> usize
+    requires { ⌜ FineLocks locks (now ceilings) ⌝ }
+    requires { ⌜ length (now file) ≤ 2 ^ 32 ⌝ }
+    ensures { λ r. ⌜ (r ≡ length (shareLines (shareFrom (now (file .entry)) name row bound locks (now (ceilings .entry))))) × (r ≤ 2 ^ 37) ⌝ }
+{
+    let line = share_line_length(scan::bytes(file, name), row, bound);
+    line + ceilings_length(file, locks, ceilings)
 }
