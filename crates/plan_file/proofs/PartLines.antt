@@ -131,7 +131,7 @@ read-by-part s ps e =
     let d = read-answered-iff s ps .0 e in
     sym (d .are) ∙ parts-by-lines 1 nothingAbove (linesOf s) (d .yes) refl
 
-nth-of-map : {A B : Type 0} (f : A → B) (d : A) (k : ℕ) (xs : List A) → nthOr (f d) k (map f xs) ≡ f (nthOr d k xs)
+pub nth-of-map : {A B : Type 0} (f : A → B) (d : A) (k : ℕ) (xs : List A) → nthOr (f d) k (map f xs) ≡ f (nthOr d k xs)
 unfolding nthOr
 nth-of-map f d k [] = refl
 nth-of-map f d zero (x ∷ xs) = refl

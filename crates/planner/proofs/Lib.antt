@@ -1,3 +1,5 @@
 pub mod Named
 pub mod Listed
 pub mod Local
+pub mod KeptRows
+pub mod Demand3
