@@ -3,3 +3,4 @@ pub mod Listed
 pub mod Local
 pub mod KeptRows
 pub mod Demand3
+pub mod Exactly
