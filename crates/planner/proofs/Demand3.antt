@@ -1,7 +1,7 @@
 -- The top theorem: `planOf` meets demand 3, whatever readable file it is asked for and whatever room is lent.
 --   everyKept ps   == the answer to question 10: every part has a kept row
 --   keptChoices ps == the choices built from kept pairs
---   planned ps     == the rows of the plan: the first of least load among them
+--   leastRows ps   == the rows of the plan: the first of least load among them
 -- Assumes nothing.
 use Prim.Native.Nat.{ℕ, zero, suc, _≤_}
 use native.Mathlib.Omega.{arith}
@@ -85,8 +85,8 @@ module _ (ps : List FilePart) where
   abbrev keptChoices : List (List Row)
   keptChoices = choices (map keptRows ps)
 
-  abbrev planned : List Row
-  planned = leastLoaded keptChoices
+  abbrev leastRows : List Row
+  leastRows = leastLoaded keptChoices
 
   abbrev text : List ℕ
   text = planText ps (planRows (map keptRows ps))
@@ -132,40 +132,40 @@ module _ (ps : List FilePart) where
     some-choice : 1 ≤ length keptChoices
     some-choice = member-some (some-iff passesSystem keptChoices .0 e .1)
 
-    pub planned-kept : Each FromKept ps planned
-    planned-kept = choices-kept ps planned .0 (leastLoaded-member keptChoices some-choice)
+    pub leastRows-kept : Each FromKept ps leastRows
+    leastRows-kept = choices-kept ps leastRows .0 (leastLoaded-member keptChoices some-choice)
 
-    pub planned-passes : passesSystem planned ≡ true
-    planned-passes = some-passes keptChoices some-choice .0 e
+    pub leastRows-passes : passesSystem leastRows ≡ true
+    leastRows-passes = some-passes keptChoices some-choice .0 e
 
-    pub planned-least : (rs : List Row) → PassingChoice ps rs → loadOf planned ⊑ loadOf rs
-    planned-least rs c =
+    pub leastRows-least : (rs : List Row) → PassingChoice ps rs → loadOf leastRows ⊑ loadOf rs
+    leastRows-least rs c =
         let k = passing-under ps rs c in
         ⊑-trans (loadOf-ok (k .rows)) (leastLoaded-least keptChoices (k .rows) (k .kept)) (k .lighter)
 
-    pub planned-greatest : (rs : List Row) → Each FromKept ps rs → loadOf rs ⊑ loadOf planned → Each (λ r s. s .holding ≤ r .holding) planned rs
-    planned-greatest rs k h = leastLoaded-greatest (keptRows-sorted ps) rs (choices-kept ps rs .1 k) h
+    pub leastRows-greatest : (rs : List Row) → Each FromKept ps rs → loadOf rs ⊑ loadOf leastRows → Each (λ r s. s .holding ≤ r .holding) leastRows rs
+    leastRows-greatest rs k h = leastLoaded-greatest (keptRows-sorted ps) rs (choices-kept ps rs .1 k) h
 
     abbrev shares : List Share
-    shares = sharesOf ps planned (boundsOf planned)
+    shares = sharesOf ps leastRows (boundsOf leastRows)
 
-    rows-are : map (λ s. s .row) shares ≡ planned
-    rows-are = shares-rows (boundsOf planned) planned-kept (boundsOf-length planned)
+    rows-are : map (λ s. s .row) shares ≡ leastRows
+    rows-are = shares-rows (boundsOf leastRows) leastRows-kept (boundsOf-length leastRows)
 
     shares-greatest : (rs : List Row) → Each FromKept ps rs → loadOf rs ⊑ loadOf (map (λ s. s .row) shares) → Each (λ s r. r .holding ≤ s .row .holding) shares rs
     shares-greatest rs k h =
-        each-of-map (λ s. s .row) shares (rw rows-are (planned-greatest rs k (rw rows-are at h)))
+        each-of-map (λ s. s .row) shares (rw rows-are (leastRows-greatest rs k (rw rows-are at h)))
 
     pub text-printed : Printed ps text
     unfolding planText planRows
     text-printed = record {
       shares = shares;
       bytes = refl;
-      choice = shares-stand (boundsOf planned) planned-kept (boundsOf-length planned);
-      system = rw rows-are planned-passes;
-      bounds = shares-bounds (boundsOf planned) planned-kept (boundsOf-length planned) ∙ ap boundsOf (sym rows-are);
-      least = λ rs c. rw rows-are (planned-least rs c);
-      kept = rw rows-are planned-kept;
+      choice = shares-stand (boundsOf leastRows) leastRows-kept (boundsOf-length leastRows);
+      system = rw rows-are leastRows-passes;
+      bounds = shares-bounds (boundsOf leastRows) leastRows-kept (boundsOf-length leastRows) ∙ ap boundsOf (sym rows-are);
+      least = λ rs c. rw rows-are (leastRows-least rs c);
+      kept = rw rows-are leastRows-kept;
       greatest = λ rs c k h. shares-greatest rs k h;
     }
 
