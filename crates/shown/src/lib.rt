@@ -6,17 +6,17 @@ ghost use Rattle.task_set.specs.Fine.{FinePart};
 ghost use Rattle.shown.specs.Shown.{ceilingOr0, ShownAre};
 
 // The ceiling that was found; 0 where there is none.
-fn ceiling_or_0(c: Ceiling) -> usize
+fn ceiling_or_0(c: Ceiling) -> u64
     ensures { λ r. ⌜ r ≡ ceilingOr0 c ⌝ }
 {
     match c {
-        Ceiling::Held(r, _) => r,
+        Ceiling::Held(r, _) => r as u64,
         Ceiling::NotHeld => 0,
     }
 }
 
 // The ceilings shown for x, lock by lock in order of first mention: the lowest that are held for at most x.
-pub fn shown_ceilings(part: Part, x: u64) -> [usize; 8]
+pub fn shown_ceilings(part: Part, x: u64) -> [u64; 8]
     requires { ⌜ FinePart part ⌝ }
     ensures { λ r. ⌜ ShownAre part x r ⌝ }
 {
@@ -27,7 +27,7 @@ pub fn shown_ceilings(part: Part, x: u64) -> [usize; 8]
     let longest = locks.longest;
     let limits = locks.deadlines;
     let lowest = locks.lowest;
-    let mut ceilings = [0usize; 8];
+    let mut ceilings = [0u64; 8];
     let mut j = 0;
     while j < part.locks {
         let found = holding::lowest_within(
