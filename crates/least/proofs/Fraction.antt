@@ -193,6 +193,11 @@ module _ (g : ℕ → Frac) (ok : (t : ℕ) → 0 < t → Ok (g t)) where
   leastOver-below (suc n) t h k =
       ⊎-elim (λ e. rw e (lesser-right _ _)) (λ l. ⊑-trans (leastOver-ok n) (lesser-left _ _) (leastOver-below n t h (omega arith))) (eq-or-lt-of-le k)
 
+  pub leastOver-above : {x : Frac} (n : ℕ) → ((t : ℕ) → 0 < t → t ≤ n → x ⊑ g t) → x ⊑ leastOver n g
+  unfolding leastOver
+  leastOver-above zero f = ⊑-noBound _
+  leastOver-above (suc n) f = lesser-least (leastOver-above n (λ t h k. f t h (omega arith))) (f (suc n) (omega arith) (le-refl _))
+
   pub leastOver-mono : (h : ℕ → Frac) → ((t : ℕ) → g t ⊑ h t) → (n : ℕ) → leastOver n g ⊑ leastOver n h
   unfolding leastOver
   leastOver-mono h m zero = ⊑-refl _

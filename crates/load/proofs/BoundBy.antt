@@ -19,7 +19,7 @@ module _ (periods sums : List ℕ) (n s period own : ℕ) where
   abbrev pub loadBy : ℕ → ℕ
   loadBy t = loadAt [] (row period own 0) (drop s (sharesOf periods sums n)) t
 
-  loadBy-is : (t : ℕ) → loadBy t ≡ own + askedFrom periods sums n s t
+  pub loadBy-is : (t : ℕ) → loadBy t ≡ own + askedFrom periods sums n s t
   unfolding loadAt greatest
   loadBy-is t = omega arith
 
@@ -35,10 +35,10 @@ module _ (periods sums : List ℕ) (n s period own : ℕ) where
   bound-end done num den b l = let e : period ≡ done = omega (arith, b .within) in ap (λ (k : ℕ). leastOver k (λ t. ratio (loadBy t) t)) e ∙ b .value
 
   module _ (fine : FineShares periods sums n) (some : 1 ≤ own) where
-    loadBy-mono : Mono loadBy
+    pub loadBy-mono : Mono loadBy
     loadBy-mono v w l = loadAt-mono-t [] (row period own 0) (drop s (sharesOf periods sums n)) (shares-periods periods sums n (fine .fine) s) l
 
-    loadBy-some : (t : ℕ) → 1 ≤ loadBy t
+    pub loadBy-some : (t : ℕ) → 1 ≤ loadBy t
     loadBy-some t = omega (arith, loadBy-is t)
 
     -- one turn, at the time done + 1, where the rows ask for x

@@ -3,7 +3,7 @@
 --   Asks r s  == r has the period of s and costs no more;  Under r s == and holds no longer
 -- Assumes nothing.
 use mathlib.Core.Path.{_≡_, refl, sym, ap, _∙_}
-use mathlib.Core.Logic.{⊎-elim, _↔_}
+use mathlib.Core.Logic.{_⊎_, inl, inr, ⊎-elim, _↔_}
 use mathlib.Core.Bool.{Bool, true, false, false≢true}
 use mathlib.Core.List.{List, [], _∷_, _++_, map, reverse, List·Memᴰ}
 use mathlib.Core.List.List·Memᴰ.{List·Memᴰ·head, List·Memᴰ·tail}
@@ -46,6 +46,10 @@ ratio-ok L t h = cond-le Ok L t (λ _. record { some = omega arith }) (λ _. rec
 ratio-small : (L t P : ℕ) → 1 ≤ P → t ≤ P → (ratio L t .num ≤ P) × (ratio L t .den ≤ P)
 unfolding ratio
 ratio-small L t P h k = cond-le (λ (x : Frac). (x .num ≤ P) × (x .den ≤ P)) L t (λ l. (omega arith, k)) (λ _. (h, omega arith))
+
+ratio-proper : (L t : ℕ) → 1 ≤ L → (ratio L t ≡ noBound) ⊎ ((1 ≤ ratio L t .num) × (ratio L t .num ≤ ratio L t .den))
+unfolding ratio
+ratio-proper L t h = cond-le (λ (x : Frac). (x ≡ noBound) ⊎ ((1 ≤ x .num) × (x .num ≤ x .den))) L t (λ l. inr (h, l)) (λ _. inl refl)
 
 -- a ratio with a positive denominator
 record Ratio (L t M u : ℕ) : Type 0 where
@@ -108,6 +112,12 @@ module _ (lower : List Row) (s : Row) (higher : List Row) where
   boundOf-small h =
       ⊎-elim (λ e. rw e (h, omega arith)) (λ r. rw (r .value) (ratio-small _ (r .at) (s .period) h (r .within)))
       (leastOver-reached (λ u. ratio (loadAt lower s higher u) u) (λ u k. ratio-ok _ u k) (s .period))
+
+  -- it is a ratio of at most 1, or 1/0
+  pub bound-proper : 1 ≤ rowSum s → (boundOf lower s higher ≡ noBound) ⊎ ((1 ≤ boundOf lower s higher .num) × (boundOf lower s higher .num ≤ boundOf lower s higher .den))
+  unfolding boundOf loadAt
+  bound-proper h =
+      ⊎-elim inl (λ r. rw (r .value) (ratio-proper _ (r .at) (omega arith))) (leastOver-reached (λ u. ratio (loadAt lower s higher u) u) (λ u k. ratio-ok _ u k) (s .period))
 
   -- only one fraction is such a bound
   bound-earliest : {L t M u : ℕ} → Bound lower s higher L t → Bound lower s higher M u → t ≤ u

@@ -5,20 +5,22 @@
 use Prim.Native.Nat.{ℕ, _+_, _^_, _≤_, _<_}
 use native.Mathlib.Omega.{arith}
 use native.Mathlib.Decide.{ℕ-discrete}
-use mathlib.Core.Path.{_≡_, sym, _∙_}
+use mathlib.Core.Path.{_≡_, sym, ap, _∙_}
 use mathlib.Core.Logic.{_⊎_, inl, inr}
+use mathlib.Core.Bool.{Bool, true, false, false≢true}
 use mathlib.Core.List.{List, []}
+use borrow.Author.Tests.{leb-true, leb-false}
 use lib.ListN.{length, getD, drop}
 use Rattle.least.specs.declared.Frac.{Frac}
-use Rattle.least.specs.Fraction.{frac, _⊑_, _⊏_}
+use Rattle.least.specs.Fraction.{frac, _⊑_, _⊏_, atMost}
 use Rattle.least.proofs.Fraction.{⊑-refl, ⊑-trans, ⊏-⊑}
 use Rattle.load.specs.declared.Row.{Row}
-use Rattle.load.specs.Load.{row, boundOf}
+use Rattle.load.specs.Load.{row, rowSum, boundOf}
 use Rattle.load.specs.ByColumn.{sharesOf, rowsBy, FineColumns}
 use Rattle.load.specs.Code.{noRow}
 use Rattle.load.proofs.RowsBy.{rows-length, rows-get, bound-at}
-use Rattle.selection.specs.Code.{boundAt, heldBefore, HeaviestIs}
-use Rattle.selection.proofs.Lower.{boundAt-ok, boundAt-small}
+use Rattle.selection.specs.Code.{FineBest, boundAt, heldBefore, StuckIs, HeaviestIs}
+use Rattle.selection.proofs.Lower.{boundAt-ok, boundAt-small, boundAt-proper}
 
 pub record Ahead (rows : List Row) (s : ℕ) (bound : Frac) (blocking : ℕ) : Type 0 where
   pub place : ℕ
@@ -71,11 +73,49 @@ module _ (periods sums holdings : List ℕ) (n : ℕ) (fine : FineColumns period
       let e : getD R s noRow .period ≤ 2 ^ 20 = rw (rows-get periods sums holdings n s h) (p .most s h) in
       (omega arith, omega arith)
 
-  -- a row whose bound is not below `best`; all rows were seen
-  pub heaviest-here : (best : Frac) (s below : ℕ) (b : Frac) → s < n → below ≡ heldBefore R s → b ≡ boundAt R s → (b ⊏ best → ⊥) → HeaviestIs R best (record { bound = b; blocking = below })
-  heaviest-here best s below b h e q none = record { place = s; within = omega (arith, rows-length periods sums holdings n); bound = q; blocking = e; above = λ l. absurd (none l) }
+  pub boundAt-fine : (s : ℕ) → s < n → FineBest (boundAt R s)
+  boundAt-fine s h =
+      let l : s < length R = omega (arith, rows-length periods sums holdings n) in
+      let b = bound-small s h in
+      let e : 1 ≤ rowSum (getD R s noRow) = rw (rows-get periods sums holdings n s h) (omega (arith, fine .some s h)) in
+      record { proper = boundAt-proper R s l e; num-most = b .0; den-most = b .1 }
 
-  pub heaviest-of-all : (best : Frac) (s : ℕ) (bound : Frac) (blocking : ℕ) → 1 ≤ n → s ≡ n → Leading R s bound blocking → HeaviestIs R best (record { bound = bound; blocking = blocking })
-  heaviest-of-all best s bound blocking h e (inl z) = absurd (omega (arith, z .0))
-  heaviest-of-all best s bound blocking h e (inr a) =
-      record { place = a .place; within = omega (arith, a .before, rows-length periods sums holdings n); bound = a .is; blocking = a .blocked; above = λ _ k l. a .above k (omega (arith, rows-length periods sums holdings n)) }
+  -- all rows were seen
+  pub heaviest-of-all : (s : ℕ) (bound : Frac) (blocking : ℕ) → 1 ≤ n → s ≡ n → Leading R s bound blocking → HeaviestIs R (record { bound = bound; blocking = blocking })
+  heaviest-of-all s bound blocking h e (inl z) = absurd (omega (arith, z .0))
+  heaviest-of-all s bound blocking h e (inr a) = record {
+    place = a .place;
+    within = omega (arith, a .before, rows-length periods sums holdings n);
+    bound = a .is;
+    blocking = a .blocked;
+    above = λ k l. a .above k (omega (arith, rows-length periods sums holdings n));
+  }
+
+  -- the same search for a row whose bound is not below `best`
+  module _ (best : Frac) where
+    abbrev pub BelowTo : ℕ → Type 0
+    BelowTo s = (k : ℕ) → k < s → boundAt R k ⊏ best
+
+    module _ (s below : ℕ) (r : Bool) (within : s < n) (held : below ≡ heldBefore R s)
+        (is : r ≡ atMost best (boundOf [] (row (getD periods s 0) (getD sums s 0 + below) 0) (drop (s + 1) (sharesOf periods sums n)))) where
+      reaches-at : r ≡ atMost best (boundAt R s)
+      reaches-at = rw held at is ∙ ap (atMost best) (sym (bound-at periods sums holdings n fine s within))
+
+      pub stuck-here : r ≡ true → StuckIs R best (record { found = true; blocking = below })
+      stuck-here e = record {
+        reaches = λ _. (s, omega (arith, rows-length periods sums holdings n), record { cross = leb-true _ _ (sym reaches-at ∙ e) }, held);
+        below = λ f. absurd (false≢true (sym f));
+      }
+
+      pub stuck-next : r ≡ false → BelowTo s → BelowTo (s + 1)
+      stuck-next e f k h = go (ℕ-discrete k s)
+        where
+          here : boundAt R s ⊏ best
+          here = record { cross = leb-false _ _ (sym reaches-at ∙ e) }
+
+          go : Dec (k ≡ s) → boundAt R k ⊏ best
+          go (yes q) = rw q here
+          go (no q) = f k (omega arith)
+
+    pub stuck-nowhere : (s x : ℕ) → n ≤ s → BelowTo s → StuckIs R best (record { found = false; blocking = x })
+    stuck-nowhere s x h f = record { reaches = λ e. absurd (false≢true e); below = λ _ k l. f k (omega (arith, rows-length periods sums holdings n)) }

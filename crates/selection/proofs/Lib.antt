@@ -4,4 +4,6 @@ pub mod Places
 pub mod Lower
 pub mod Descent
 pub mod Leading
+pub mod Reaching
+pub mod ReachingBy
 pub mod Selecting

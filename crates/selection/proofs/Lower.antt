@@ -4,22 +4,22 @@ use Prim.Native.Nat.{ℕ, suc, _≤_, _<_}
 use native.Mathlib.Omega.{arith}
 use native.Mathlib.Decide.{decLt, decLe}
 use mathlib.Core.Path.{_≡_, sym, ap, _∙_}
-use mathlib.Core.Logic.{⊎-elim}
+use mathlib.Core.Logic.{_⊎_, ⊎-elim}
 use mathlib.Core.List.{List, reverse, List·Memᴰ}
 use lib.ListN.{length, take, drop, getD}
 use lib.Seq.{getD-take, length-take-le}
 use Rattle.least.specs.declared.Frac.{Frac}
 use Rattle.least.specs.Each.{Each}
-use Rattle.least.specs.Fraction.{_⊑_, _⊏_}
+use Rattle.least.specs.Fraction.{noBound, _⊑_, _⊏_}
 use Rattle.least.proofs.Each.{each-map, each-get, each-drop, length-equal}
 use Rattle.least.proofs.Members.{place-of, getD-member, reverse-iff}
 use Rattle.least.proofs.Along.{along-at}
 use Rattle.least.proofs.Greatest.{greatest-each, greatest-reached}
 use Rattle.least.proofs.Fraction.{Ok, ⊑-trans, not-⊏}
 use Rattle.load.specs.declared.Row.{Row}
-use Rattle.load.specs.Load.{boundOf, boundsOf, loadOf}
+use Rattle.load.specs.Load.{rowSum, boundOf, boundsOf, loadOf}
 use Rattle.load.specs.Code.{noRow, noFrac}
-use Rattle.load.proofs.Load.{boundOf-ok, boundOf-small, boundOf-mono, boundsOf-length, load-greatest}
+use Rattle.load.proofs.Load.{boundOf-ok, boundOf-small, bound-proper, boundOf-mono, boundsOf-length, load-greatest}
 use Rattle.selection.specs.Code.{boundAt, heldBefore}
 use Rattle.selection.proofs.Greatest.{After, after-asks}
 
@@ -34,6 +34,9 @@ module _ (rows : List Row) where
 
   pub boundAt-small : (s : ℕ) → s < length rows → 1 ≤ getD rows s noRow .period → (boundAt rows s .num ≤ getD rows s noRow .period) × (boundAt rows s .den ≤ getD rows s noRow .period)
   boundAt-small s h l = rw (bound-place s h) (boundOf-small (reverse (take s rows)) (getD rows s noRow) (drop (suc s) rows) l)
+
+  pub boundAt-proper : (s : ℕ) → s < length rows → 1 ≤ rowSum (getD rows s noRow) → (boundAt rows s ≡ noBound) ⊎ ((1 ≤ boundAt rows s .num) × (boundAt rows s .num ≤ boundAt rows s .den))
+  boundAt-proper s h l = rw (bound-place s h) (bound-proper (reverse (take s rows)) (getD rows s noRow) (drop (suc s) rows) l)
 
   pub boundAt-below : (s : ℕ) → s < length rows → boundAt rows s ⊑ loadOf rows
   boundAt-below s h = load-greatest rows .0 _ (getD-member (boundsOf rows) s noFrac (omega (arith, boundsOf-length rows)))

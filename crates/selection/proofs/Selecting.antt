@@ -1,13 +1,15 @@
 -- The turns of `select`, on plain values.
---   Selecting .. places best sums held == the descent has come to these places; `best` is small, and the columns are fine if a choice is recorded
+--   Selecting .. places best sums held == the descent has come to these places; `best` is fine, and so are the columns if a choice is recorded
 -- Assumes nothing.
-use Prim.Native.Nat.{ℕ, _+_, _-_, _*_, _^_, _≤_, _<_}
+use Prim.Native.Nat.{ℕ, _+_, _-_, _*_, _≤_, _<_}
 use native.Mathlib.Omega.{arith}
 use mathlib.Core.Path.{_≡_, refl, sym, ap, _∙_}
+use mathlib.Core.Bool.{true, false}
+use mathlib.Core.Logic.{inl}
 use mathlib.Core.List.{List}
 use borrow.Author.Tests.{ltb-true}
 use lib.Dec.{ltb}
-use lib.ListN.{getD, set, replicate, length-replicate, getD-replicate}
+use lib.ListN.{length, getD, set, replicate, length-replicate, getD-replicate}
 use Rattle.least.specs.declared.Frac.{Frac}
 use Rattle.least.specs.Lists.{countFrom}
 use Rattle.least.specs.Fraction.{noBound, _⊑_, _⊏_}
@@ -19,28 +21,34 @@ use Rattle.load.specs.ByColumn.{rowAt, rowsBy, FineColumns}
 use Rattle.load.specs.Code.{noRow}
 use Rattle.load.proofs.RowsBy.{rows-length}
 use Rattle.selection.specs.declared.Columns.{Columns}
+use Rattle.selection.specs.declared.Stuck.{Stuck}
 use Rattle.selection.specs.declared.Weight.{Weight}
-use Rattle.selection.specs.Code.{offerAt, FineOffers, FinePlaces, ColumnsAre, boundAt, heldBefore, HeaviestIs, MoverIs, ChoiceIs}
+use Rattle.selection.specs.Code.{offerAt, FineOffers, FinePlaces, ColumnsAre, FineBest, boundAt, heldBefore, StuckIs, HeaviestIs, MoverIs, ChoiceIs}
 use Rattle.selection.proofs.Places.{chosenAt, chosen-get}
 use Rattle.selection.proofs.Lower.{load-below}
-use Rattle.selection.proofs.Leading.{bound-small}
+use Rattle.selection.proofs.Leading.{boundAt-fine}
 use Rattle.selection.proofs.Descent.{Descending, placesLeft, fewer-left, descent-starts, descent-records, descent-stops, descent-moves, descent-found, descent-least}
 
 pub record Selecting (periods budgets holdings counts : List ℕ) (n : ℕ) (places : List ℕ) (best : Frac) (sums held : List ℕ) : Type 0 where
   pub descending : Descending periods budgets holdings counts n places best (rowsBy periods sums held n)
-  pub num-most : best .num ≤ 2 ^ 20
-  pub den-most : best .den ≤ 2 ^ 20
+  pub fine-best : FineBest best
   pub columns : Finite best → FineColumns periods sums held n
 
-pub turned-as : (P : Frac → List ℕ → List ℕ → Type 0) {b b′ : Frac} {s s′ x x′ : List ℕ} → b ≡ b′ → s ≡ s′ → x ≡ x′ → P b′ s′ x′ → P b s x
-turned-as P e f g h = rw (e, f, g) h
+-- the row at some place has a bound of at least `best`, and is blocked by x
+pub record ReachedAt (rows : List Row) (best : Frac) (x : ℕ) : Type 0 where
+  pub place : ℕ
+  pub within : place < length rows
+  pub reaches : best ⊑ boundAt rows place
+  pub blocked : x ≡ heldBefore rows place
+
+pub turned-as : (P : Frac → List ℕ → List ℕ → ℕ → Type 0) {b b′ : Frac} {s s′ h h′ : List ℕ} {x x′ : ℕ} → b ≡ b′ → s ≡ s′ → h ≡ h′ → x ≡ x′ → P b′ s′ h′ x′ → P b s h x
+turned-as P e f g i p = rw (e, f, g, i) p
 
 module _ (periods budgets holdings counts : List ℕ) (n : ℕ) (fine : FineOffers periods budgets holdings counts n) where
   pub selecting-starts : (sums held : List ℕ) → Selecting periods budgets holdings counts n (replicate 16 0) noBound sums held
   selecting-starts sums held = record {
     descending = descent-starts periods budgets holdings counts n fine (replicate 16 0) _ (length-replicate {A = ℕ} 16 0) (λ k h. getD-replicate {A = ℕ} 16 k 0 0 (omega (arith, fine .few)));
-    num-most = omega arith;
-    den-most = omega arith;
+    fine-best = record { proper = inl refl; num-most = omega arith; den-most = omega arith };
     columns = λ f. absurd (noBound-not-finite f);
   }
 
@@ -81,59 +89,66 @@ module _ (periods budgets holdings counts : List ℕ) (n : ℕ) (fine : FineOffe
               let e : getD (c .sums) k 0 - getD (c .holdings) k 0 ≡ getD budgets (121 * k + getD places k 0) 0 = omega (arith, are .sums k h, are .times k h) in
               rw (e, are .times k h) refl
 
-  -- one turn: the rows at the places, the bound and the blocking of a row, then a part that moves on
+  -- one turn: the rows at the places; a row whose bound is not below the least load so far; then a part that moves on
   module _ (places : List ℕ) (best : Frac) (sums held : List ℕ) (now : Selecting periods budgets holdings counts n places best sums held)
-      (c : Columns) (are : ColumnsAre budgets holdings places n c) (w : Weight) (heavy : HeaviestIs (rowsBy periods (c .sums) (c .holdings) n) best w) where
+      (c : Columns) (are : ColumnsAre budgets holdings places n c) where
     abbrev placed : (k : ℕ) → k < n → getD places k 0 < getD counts k 0
     placed = now .descending .placed
 
-    within : heavy .place < n
-    within = omega (arith, heavy .within, rows-length periods (c .sums) (c .holdings) n)
+    abbrev R : List Row
+    R = rowsBy periods (c .sums) (c .holdings) n
 
-    pub weight-small : (w .bound .num ≤ 2 ^ 20) × (w .bound .den ≤ 2 ^ 20)
-    weight-small = rw (heavy .bound) (bound-small periods (c .sums) (c .holdings) n (columns-fine places placed c are) (heavy .place) within)
+    long : length R ≡ n
+    long = rows-length periods (c .sums) (c .holdings) n
 
-    -- the state behind the record, in which no load that is recorded is greater than the bound
-    abbrev pub Turned : Frac → List ℕ → List ℕ → Type 0
-    Turned best sums held = Selecting periods budgets holdings counts n places best sums held × (best ⊑ w .bound)
+    abbrev pub Turned : Frac → List ℕ → List ℕ → ℕ → Type 0
+    Turned best sums held x = Selecting periods budgets holdings counts n places best sums held × ReachedAt R best x
 
-    pub turn-stays : best ⊑ w .bound → Turned best sums held
-    turn-stays h = (now, h)
+    module _ (r : Stuck) (stuck : StuckIs R best r) where
+      pub turn-stays : r .found ≡ true → Turned best sums held (r .blocking)
+      turn-stays e = let s = stuck .reaches e in (now, record { place = s .0; within = s .1; reaches = s .2; blocked = s .3 })
 
-    pub turn-records : w .bound ⊏ best → Turned (w .bound) (c .sums) (c .holdings)
-    turn-records h =
-        let R = rowsBy periods (c .sums) (c .holdings) n in
-        let e = columns-rows places placed c are in
-        let l = load-below R (omega (arith, rows-length periods (c .sums) (c .holdings) n, fine .some)) (heavy .above h) in (
-          record {
-            descending = rw e (descent-records periods budgets holdings counts n fine places best _ (now .descending) (w .bound) (rw e at l) h);
-            num-most = weight-small .0;
-            den-most = weight-small .1;
-            columns = λ _. columns-fine places placed c are;
-          },
-          ⊑-refl _,
-        )
+      pub turn-records : r .found ≡ false → (w : Weight) → HeaviestIs R w → Turned (w .bound) (c .sums) (c .holdings) (w .blocking)
+      turn-records e w heavy =
+          let f = columns-fine places placed c are in
+          let p : heavy .place < n = omega (arith, heavy .within, long) in
+          let same = columns-rows places placed c are in
+          let below : w .bound ⊏ best = rw (heavy .bound) (stuck .below e (heavy .place) (heavy .within)) in
+          let load = load-below R (omega (arith, long, fine .some)) (heavy .above) in (
+            record {
+              descending = rw same (descent-records periods budgets holdings counts n fine places best _ (now .descending) (w .bound) (rw same at load) below);
+              fine-best = rw (heavy .bound) (boundAt-fine periods (c .sums) (c .holdings) n f (heavy .place) p);
+              columns = λ _. f;
+            },
+            record { place = heavy .place; within = heavy .within; reaches = rw (heavy .bound) (⊑-refl _); blocked = heavy .blocking },
+          )
 
-    module _ (best′ : Frac) (sums′ held′ : List ℕ) (turned : Turned best′ sums′ held′) (j : ℕ) (moves : MoverIs counts (c .holdings) places n (w .blocking) j) where
-      reaches : best′ ⊑ boundAt (chosenAt periods budgets holdings counts n places) (heavy .place)
-      reaches = rw (heavy .bound, columns-rows places placed c are) at (turned .1)
+    module _ (best′ : Frac) (sums′ held′ : List ℕ) (x : ℕ) (turned : Turned best′ sums′ held′ x) (j : ℕ) (moves : MoverIs counts (c .holdings) places n x j) where
+      abbrev s : ℕ
+      s = turned .1 .place
 
-      blocks : w .blocking ≡ heldBefore (chosenAt periods budgets holdings counts n places) (heavy .place)
-      blocks = rw (columns-rows places placed c are) at (heavy .blocking)
+      within : s < n
+      within = omega (arith, turned .1 .within, long)
+
+      reaches : best′ ⊑ boundAt (chosenAt periods budgets holdings counts n places) s
+      reaches = rw (columns-rows places placed c are) at (turned .1 .reaches)
+
+      blocks : x ≡ heldBefore (chosenAt periods budgets holdings counts n places) s
+      blocks = rw (columns-rows places placed c are) at (turned .1 .blocked)
 
       time-at : (k : ℕ) → k < n → getD (chosenAt periods budgets holdings counts n places) k noRow .holding ≡ getD (c .holdings) k 0
       time-at k h = ap (λ (r : Row). r .holding) (chosen-get periods budgets holdings counts n places k h) ∙ sym (are .times k h)
 
-      none : (k : ℕ) → k < moves .first → getD (chosenAt periods budgets holdings counts n places) k noRow .holding ≡ w .blocking → ⊥
+      none : (k : ℕ) → k < moves .first → getD (chosenAt periods budgets holdings counts n places) k noRow .holding ≡ x → ⊥
       none k h e = moves .none k h (sym (time-at k (omega (arith, moves .within))) ∙ e)
 
-      holds : moves .first < n → getD (chosenAt periods budgets holdings counts n places) (moves .first) noRow .holding ≡ w .blocking
+      holds : moves .first < n → getD (chosenAt periods budgets holdings counts n places) (moves .first) noRow .holding ≡ x
       holds h = time-at (moves .first) h ∙ moves .holds h
 
       pub turn-ends : n ≤ j → ChoiceIs periods budgets holdings counts n (record { found = ltb 0 (best′ .den); sums = sums′; holdings = held′ })
       turn-ends h =
           let d = turned .0 .descending in
-          let end = descent-stops periods budgets holdings counts n fine places best′ _ d (heavy .place) (w .blocking) (moves .first) within reaches blocks none holds (moves .stops h) in
+          let end = descent-stops periods budgets holdings counts n fine places best′ _ d s x (moves .first) within reaches blocks none holds (moves .stops h) in
           record {
             found = descent-found periods budgets holdings counts n fine places best′ _ d end;
             rows = descent-least periods budgets holdings counts n fine places best′ _ d end;
@@ -143,8 +158,8 @@ module _ (periods budgets holdings counts : List ℕ) (n : ℕ) (fine : FineOffe
       pub turn-moves : j < n → Selecting periods budgets holdings counts n (set places j (getD places j 0 + 1)) best′ sums′ held′
       turn-moves h =
           let m = moves .moves h in
-          let d = descent-moves periods budgets holdings counts n fine places best′ _ (turned .0 .descending) (heavy .place) (w .blocking) (moves .first) within reaches blocks none holds (omega (arith, m .0)) (m .1) in
-          record { descending = rw (m .0) d; num-most = turned .0 .num-most; den-most = turned .0 .den-most; columns = turned .0 .columns }
+          let d = descent-moves periods budgets holdings counts n fine places best′ _ (turned .0 .descending) s x (moves .first) within reaches blocks none holds (omega (arith, m .0)) (m .1) in
+          record { descending = rw (m .0) d; fine-best = turned .0 .fine-best; columns = turned .0 .columns }
 
       pub turn-fewer : j < n → placesLeft counts n (set places j (getD places j 0 + 1)) < placesLeft counts n places
       turn-fewer h = fewer-left counts places n j (omega (arith, now .descending .room, fine .few)) h (placed j h)

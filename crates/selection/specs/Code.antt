@@ -7,23 +7,28 @@
 --   heldBefore rows s  == what blocks it: the greatest holding time of the rows before it
 --   FinePlaces budgets holdings places n == each of n parts has a place below 121, with numbers up to 2^20
 --   ColumnsAre budgets holdings places n c == c holds the sums and the holding times of the rows at these places
---   HeaviestIs rows best w == w is the bound and the blocking of a row; if this bound is below `best`, no row has a greater one
+--   FineBest best     == 1/0, or a fraction of at most 1 of numbers from 1 to 2^20
+--   UntilIs best l u  == in proportion to the times up to u, and to no later one, a load of l is at least `best`
+--   StuckIs rows best r == r is the blocking of a row whose bound is not below `best`, if there is such a row
+--   HeaviestIs rows w == w is the bound and the blocking of a row that reaches the load
 --   MoverIs counts holdings places n x j == j is the first of n parts that holds for x, and has a next row; or there is no such part, and j is n
 --   ChoiceIs .. c     == c holds the first choice of least load, if any choice passes
 -- Assumes nothing.
 use Prim.Native.Nat.{ℕ, suc, _+_, _*_, _^_, _≤_, _<_}
 use mathlib.Core.Path.{_≡_}
-use mathlib.Core.Bool.{true}
+use mathlib.Core.Bool.{true, false}
+use mathlib.Core.Logic.{_⊎_}
 use mathlib.Core.List.{List, map, reverse}
 use lib.ListN.{length, getD, take}
 use Rattle.least.specs.declared.Frac.{Frac}
 use Rattle.least.specs.Lists.{greatest, some, countFrom}
-use Rattle.least.specs.Fraction.{_⊑_, _⊏_}
+use Rattle.least.specs.Fraction.{noBound, _⊑_, _⊏_}
 use Rattle.load.specs.declared.Row.{Row}
 use Rattle.load.specs.Load.{row, rowSum, boundsOf, passesSystem}
 use Rattle.load.specs.ByColumn.{rowsBy, FineColumns}
 use Rattle.load.specs.Code.{noFrac, FineRow}
 use Rattle.selection.specs.declared.Columns.{Columns}
+use Rattle.selection.specs.declared.Stuck.{Stuck}
 use Rattle.selection.specs.declared.Weight.{Weight}
 use Rattle.selection.specs.declared.Choice.{Choice}
 use Rattle.selection.specs.Selection.{choices, leastLoaded}
@@ -59,12 +64,25 @@ pub record ColumnsAre (budgets holdings places : List ℕ) (n : ℕ) (c : Column
   pub sums : (k : ℕ) → k < n → getD (c .sums) k 0 ≡ getD budgets (121 * k + getD places k 0) 0 + getD holdings (121 * k + getD places k 0) 0
   pub times : (k : ℕ) → k < n → getD (c .holdings) k 0 ≡ getD holdings (121 * k + getD places k 0) 0
 
-pub record HeaviestIs (rows : List Row) (best : Frac) (w : Weight) : Type 0 where
+pub record FineBest (best : Frac) : Type 0 where
+  pub proper : (best ≡ noBound) ⊎ ((1 ≤ best .num) × (best .num ≤ best .den))
+  pub num-most : best .num ≤ 2 ^ 20
+  pub den-most : best .den ≤ 2 ^ 20
+
+pub record UntilIs (best : Frac) (l u : ℕ) : Type 0 where
+  pub within : (t : ℕ) → t ≤ u → (t < l) ⊎ (best .num * t ≤ l * best .den)
+  pub past : (t : ℕ) → u < t → (l ≤ t) × (l * best .den < best .num * t)
+
+pub record StuckIs (rows : List Row) (best : Frac) (r : Stuck) : Type 0 where
+  pub reaches : r .found ≡ true → (s : ℕ) × (s < length rows) × (best ⊑ boundAt rows s) × (r .blocking ≡ heldBefore rows s)
+  pub below : r .found ≡ false → (s : ℕ) → s < length rows → boundAt rows s ⊏ best
+
+pub record HeaviestIs (rows : List Row) (w : Weight) : Type 0 where
   pub place : ℕ
   pub within : place < length rows
   pub bound : w .bound ≡ boundAt rows place
   pub blocking : w .blocking ≡ heldBefore rows place
-  pub above : w .bound ⊏ best → (s : ℕ) → s < length rows → boundAt rows s ⊑ w .bound
+  pub above : (s : ℕ) → s < length rows → boundAt rows s ⊑ w .bound
 
 pub record MoverIs (counts holdings places : List ℕ) (n x j : ℕ) : Type 0 where
   pub first : ℕ

@@ -1,10 +1,13 @@
 // The choice of least load among the rows that each part offers.
 use least::Frac;
 ghost use mathlib.Core.Path.{_≡_};
+ghost use mathlib.Core.List.{[]};
 ghost use Prim.Native.Nat.{ℕ, _^_, _≤_, _<_};
-ghost use lib.ListN.{getD};
-ghost use Rattle.load.specs.ByColumn.{rowsBy, FineColumns};
-ghost use Rattle.selection.specs.Code.{FineOffers, FinePlaces, ColumnsAre, HeaviestIs, MoverIs, ChoiceIs};
+ghost use lib.ListN.{getD, drop};
+ghost use Rattle.least.specs.Fraction.{atMost};
+ghost use Rattle.load.specs.Load.{row, boundOf};
+ghost use Rattle.load.specs.ByColumn.{sharesOf, rowsBy, FineShares, FineColumns};
+ghost use Rattle.selection.specs.Code.{FineOffers, FinePlaces, ColumnsAre, FineBest, UntilIs, StuckIs, HeaviestIs, MoverIs, ChoiceIs};
 
 // A choice by columns: what each part's row costs, and its holding time.
 pub struct Columns {
@@ -37,22 +40,93 @@ fn columns_at(
     }
 }
 
+// The last time to which a load of l is in a proportion of at least `best`.
+fn until_reached(l: u64, best: Frac) -> u64
+    requires { ⌜ (1 ≤ l) × (l ≤ 2 ^ 20) × FineBest best ⌝ }
+    ensures { λ u. ⌜ UntilIs best l u ⌝ }
+{
+    let num = best.num;
+    let den = best.den;
+    if den == 0 {
+        return l - 1;
+    }
+    l * den / num
+}
+
+// Whether the bound of a row with this period is not below `best`; its own cost and blocking are `own`, the rows from the place s on are above it. Each turn
+// passes over times whose ratio is not below `best`.
+fn reaches(
+    periods: &[u64; 16],
+    sums: &[u64; 16],
+    n: usize,
+    s: usize,
+    period: u64,
+    own: u64,
+    best: Frac,
+) -> bool
+    requires { ⌜ FineShares (now periods) (now sums) n × (1 ≤ period) × (period ≤ 2 ^ 20) × (1 ≤ own) × (own ≤ 2 ^ 23) × FineBest best ⌝ }
+    ensures { λ r. ⌜ r ≡ atMost best (boundOf [] (row period own 0) (drop s (sharesOf (now (periods .entry)) (now (sums .entry)) n))) ⌝ }
+{
+    let mut done: u64 = 0;
+    while done < period {
+        let l = own + load::demand_from(periods, sums, n, s, done + 1);
+        if period < l {
+            return true;
+        }
+        let until = until_reached(l, best);
+        if until <= done {
+            return false;
+        }
+        done = until;
+    }
+    true
+}
+
+// Whether some row has a bound that is not below a given one, and what blocks this row.
+pub struct Stuck {
+    pub found: bool,
+    pub blocking: u64,
+}
+
+// The first row whose bound is not below `best`.
+fn first_reaching(
+    periods: &[u64; 16],
+    sums: &[u64; 16],
+    holdings: &[u64; 16],
+    n: usize,
+    best: Frac,
+) -> Stuck
+    requires { ⌜ FineColumns (now periods) (now sums) (now holdings) n × FineBest best ⌝ }
+    ensures { λ r. ⌜ StuckIs (rowsBy (now (periods .entry)) (now (sums .entry)) (now (holdings .entry)) n) best r ⌝ }
+{
+    let mut below: u64 = 0;
+    let mut s = 0;
+    while s < n {
+        if reaches(periods, sums, n, s + 1, periods[s], sums[s] + below, best) {
+            return Stuck {
+                found: true,
+                blocking: below,
+            };
+        }
+        below = least::larger(below, holdings[s]);
+        s += 1;
+    }
+    Stuck {
+        found: false,
+        blocking: 0,
+    }
+}
+
 // The bound of a row, and what blocks the row.
 pub struct Weight {
     pub bound: Frac,
     pub blocking: u64,
 }
 
-// The first row whose bound is not below `best`; where there is none, a row that reaches the load.
-fn heaviest(
-    periods: &[u64; 16],
-    sums: &[u64; 16],
-    holdings: &[u64; 16],
-    n: usize,
-    best: Frac,
-) -> Weight
-    requires { ⌜ FineColumns (now periods) (now sums) (now holdings) n × (1 ≤ n) × (best .num < 2 ^ 32) × (best .den < 2 ^ 32) ⌝ }
-    ensures { λ w. ⌜ HeaviestIs (rowsBy (now (periods .entry)) (now (sums .entry)) (now (holdings .entry)) n) best w ⌝ }
+// A row that reaches the load: the last one.
+fn heaviest(periods: &[u64; 16], sums: &[u64; 16], holdings: &[u64; 16], n: usize) -> Weight
+    requires { ⌜ FineColumns (now periods) (now sums) (now holdings) n × (1 ≤ n) ⌝ }
+    ensures { λ w. ⌜ HeaviestIs (rowsBy (now (periods .entry)) (now (sums .entry)) (now (holdings .entry)) n) w ⌝ }
 {
     let mut bound = Frac { num: 0, den: 1 };
     let mut blocking: u64 = 0;
@@ -60,12 +134,6 @@ fn heaviest(
     let mut s = 0;
     while s < n {
         let b = load::bound_of(periods, sums, n, s + 1, periods[s], sums[s] + below);
-        if !least::is_less(b, best) {
-            return Weight {
-                bound: b,
-                blocking: below,
-            };
-        }
         if !least::is_less(b, bound) {
             bound = b;
             blocking = below;
@@ -127,14 +195,17 @@ pub fn select(
         let columns = columns_at(budgets, holdings, &places, n);
         let costs = columns.sums;
         let times = columns.holdings;
-        let weight = heaviest(periods, &costs, &times, n, best);
-        let bound = weight.bound;
-        if least::is_less(bound, best) {
+        let stuck = first_reaching(periods, &costs, &times, n, best);
+        let mut blocking = stuck.blocking;
+        if !stuck.found {
+            let weight = heaviest(periods, &costs, &times, n);
+            let bound = weight.bound;
             best = bound;
             sums = costs;
             held = times;
+            blocking = weight.blocking;
         }
-        let j = mover(counts, &times, &places, n, weight.blocking);
+        let j = mover(counts, &times, &places, n, blocking);
         if n <= j {
             return Choice {
                 found: 0 < best.den,

@@ -8,21 +8,21 @@ use native.Mathlib.Omega.{arith}
 use mathlib.Core.Logic.{inl, ⊎-elim}
 use mathlib.Core.List.{List}
 use borrow.Author.Tests.{not-true, not-false}
-use Rattle.least.proofs.Fraction.{not-⊏, less-true, less-false}
+use Rattle.least.proofs.Fraction.{less-true, less-false}
 use Rattle.load.specs.declared.Row.{Row}
 use Rattle.load.specs.ByColumn.{rowsBy}
 use Rattle.load.proofs.RowsBy.{rows-length, blocking-none, blocking-next}
 use Rattle.selection.specs.Code.{boundAt, heldBefore}
-use Rattle.selection.proofs.Leading.{SmallLeading, leading-as, leading-stays, leading-goes, bound-is, bound-small, heaviest-here, heaviest-of-all}
+use Rattle.selection.proofs.Leading.{SmallLeading, leading-as, leading-stays, leading-goes, bound-is, bound-small, heaviest-of-all}
 use Rattle.selection.proofs.heaviest.Statement.{statement}
 use Rattle.selection.proofs.heaviest.Tie as tie
 
 abbrev Inv-loop : tie.InvT-loop
-Inv-loop periods sums holdings n best bound₀ blocking₀ below₀ s₀ bound blocking below s =
+Inv-loop periods sums holdings n bound₀ blocking₀ below₀ s₀ bound blocking below s =
     SmallLeading (rowsBy periods sums holdings n) s bound blocking × (below ≡ heldBefore (rowsBy periods sums holdings n) s) × (s ≤ n) × (below ≤ 2 ^ 22)
 
 abbrev μ-loop : tie.MeasureT-loop
-μ-loop periods sums holdings n best bound₀ blocking₀ below₀ s₀ bound blocking below s = n - s
+μ-loop periods sums holdings n bound₀ blocking₀ below₀ s₀ bound blocking below s = n - s
 
 loop-holds : tie.Need-loop-holds Inv-loop μ-loop
 loop-holds c =
@@ -72,39 +72,30 @@ small : (c : tie.After-bound-of Inv-loop μ-loop) → (c .bound-of .result .num 
 small c = let a = c .before .before .before .before .before .args in rw (value c) (bound-small (a .periods .now) (a .sums .now) (a .holdings .now) (a .n) (c .before .before .before .before .before .pre .0) (place c) (c .before .before .before .loop-test .taken))
 
 is-less-requires : tie.Need-is-less-requires Inv-loop μ-loop
-is-less-requires c κs = let p = c .before .before .before .before .before .pre in (omega (arith, small c), omega (arith, small c), p .2, p .3)
-
-returns : tie.Need-returns Inv-loop μ-loop
-returns c =
-    let s = c .before .before .before .before .before .before .before in
-    let a = s .args in
-    let l = c .before .before .before .before .before .before .loop in
-    heaviest-here (a .periods .now) (a .sums .now) (a .holdings .now) (a .n) (s .pre .0) (a .best) (l .s) (l .below) _ (c .before .before .before .before .before .loop-test .taken) (l .inv .1) (value (c .before .before))
-    (λ h. not-⊏ h (less-false _ _ (sym (c .before .is-less .ensures) ∙ not-true _ (c .if1 .taken))))
-
-is-less-requires-2 : tie.Need-is-less-requires-2 Inv-loop μ-loop
-is-less-requires-2 c κs = let i = c .before .before .before .before .before .before .loop .inv in (omega (arith, small (c .before .before)), omega (arith, small (c .before .before)), omega (arith, i .0 .1), omega (arith, i .0 .2))
+is-less-requires c κs =
+    let i = c .before .before .before .before .loop .inv in
+    (omega (arith, small c), omega (arith, small c), omega (arith, i .0 .1), omega (arith, i .0 .2))
 
 -- behind the two branches
-abbrev bound-place : tie.Joined2 Inv-loop μ-loop → tie.After-bound-of Inv-loop μ-loop
-bound-place c = c .before .before .before .before
+abbrev bound-place : tie.Joined1 Inv-loop μ-loop → tie.After-bound-of Inv-loop μ-loop
+bound-place c = c .before .before
 
-joined : (c : tie.Joined2 Inv-loop μ-loop) → SmallLeading (rows (bound-place c)) (place (bound-place c) + 1) (c .if2 .bound) (c .if2 .blocking)
+joined : (c : tie.Joined1 Inv-loop μ-loop) → SmallLeading (rows (bound-place c)) (place (bound-place c) + 1) (c .if1 .bound) (c .if1 .blocking)
 joined c =
     let b = bound-place c in
     let a = b .before .before .before .before .before .args in
     let l = b .before .before .before .before .loop in
     let long : l .s < length (rows b) = omega (arith, rows-length (a .periods .now) (a .sums .now) (a .holdings .now) (a .n)) in
     ⊎-elim
-    (λ w. leading-as (rows b) (l .s + 1) (w .1) (w .2) (leading-goes (rows b) (l .s) (l .bound) (l .blocking) _ (value b) (l .below) (l .inv .1) long (l .inv .0 .0) (less-false _ _ (sym (c .before .is-less2 .ensures) ∙ not-true _ (w .0 .taken))), small b .0, small b .1))
-    (λ w. leading-as (rows b) (l .s + 1) (w .1) (w .2) (leading-stays (rows b) (l .s) (l .bound) (l .blocking) _ (value b) (l .inv .0 .0) (less-true _ _ (sym (c .before .is-less2 .ensures) ∙ not-false _ (w .0 .left))), l .inv .0 .1, l .inv .0 .2))
-    (c .if2 .came)
+    (λ w. leading-as (rows b) (l .s + 1) (w .1) (w .2) (leading-goes (rows b) (l .s) (l .bound) (l .blocking) _ (value b) (l .below) (l .inv .1) long (l .inv .0 .0) (less-false _ _ (sym (c .before .is-less .ensures) ∙ not-true _ (w .0 .taken))), small b .0, small b .1))
+    (λ w. leading-as (rows b) (l .s + 1) (w .1) (w .2) (leading-stays (rows b) (l .s) (l .bound) (l .blocking) _ (value b) (l .inv .0 .0) (less-true _ _ (sym (c .before .is-less .ensures) ∙ not-false _ (w .0 .left))), l .inv .0 .1, l .inv .0 .2))
+    (c .if1 .came)
 
 mul-larger : tie.Need-mul-larger Inv-loop μ-loop
-mul-larger c = omega (arith, c .before .before .before .before .before .before .before .before .before .pre .0 .shares .fine .few)
+mul-larger c = omega (arith, c .before .before .before .before .before .before .before .pre .0 .shares .fine .few)
 
 element-copy-out-larger : tie.Need-element-copy-out-larger Inv-loop μ-loop
-element-copy-out-larger c = omega (arith, c .before .before .before .before .before .before .before .before .before .pre .0 .shares .fine .few)
+element-copy-out-larger c = omega (arith, c .before .before .before .before .before .before .before .pre .0 .shares .fine .few)
 
 larger-requires : tie.Need-larger-requires Inv-loop μ-loop
 larger-requires c κs = tt
@@ -126,11 +117,11 @@ loop-again c =
     let held : getD (a .holdings .now) (l .s) 0 ≤ 2 ^ 22 = omega (arith, f .holds (l .s) h, f .shares .most (l .s) h) in
     (e, omega (arith, c .larger .ensures, l .inv .1, blocking-next (a .periods .now) (a .sums .now) (a .holdings .now) (a .n) (l .s) h), omega arith, omega (arith, c .larger .ensures))
 
-returns-2 : tie.Need-returns-2 Inv-loop μ-loop
-returns-2 c =
+returns : tie.Need-returns Inv-loop μ-loop
+returns c =
     let a = c .before .before .args in
     let l = c .before .loop in
-    heaviest-of-all (a .periods .now) (a .sums .now) (a .holdings .now) (a .n) (c .before .before .pre .0) (a .best) (l .s) (l .bound) (l .blocking) (c .before .before .pre .1) (omega arith) (l .inv .0 .0)
+    heaviest-of-all (a .periods .now) (a .sums .now) (a .holdings .now) (a .n) (c .before .before .pre .0) (l .s) (l .bound) (l .blocking) (c .before .before .pre .1) (omega arith) (l .inv .0 .0)
 
 pub heaviest-spec : {M : Type 1} → statement M
 heaviest-spec =
@@ -147,12 +138,10 @@ heaviest-spec =
     add-bound-of-2
     bound-of-requires
     is-less-requires
-    returns
-    is-less-requires-2
     mul-larger
     element-copy-out-larger
     larger-requires
     add-s
     loop-less
     loop-again
-    returns-2)
+    returns)
