@@ -7,3 +7,4 @@ pub mod Leading
 pub mod Reaching
 pub mod ReachingBy
 pub mod Selecting
+pub mod Offers

@@ -57,11 +57,11 @@ module _ (periods budgets holdings counts : List ℕ) (n : ℕ) where
   chosen-get places k h = column-get _ noRow k n h
 
   -- every choice is left at the beginning
-  offers-length : length offers ≡ n
+  pub offers-length : length offers ≡ n
   unfolding offersOf
   offers-length = column-length _ n
 
-  offers-get : (k : ℕ) → k < n → getD offers k [] ≡ rowsOf k
+  pub offers-get : (k : ℕ) → k < n → getD offers k [] ≡ rowsOf k
   unfolding offersOf
   offers-get k h = column-get _ [] k n h
 
