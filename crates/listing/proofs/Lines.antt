@@ -3,16 +3,15 @@
 use Prim.Native.Nat.{ℕ, _+_}
 use native.Mathlib.Omega.{arith}
 use mathlib.Core.Path.{_≡_, refl, sym, ap, _∙_}
-use mathlib.Core.List.{List, [], _∷_, _++_, map, append-assoc}
+use mathlib.Core.List.{List, [], _∷_, _++_, append-assoc}
 use lib.ListN.{length, length-append}
 use lib.Seq.{append-snoc}
 use Rattle.least.specs.declared.Frac.{Frac}
-use Rattle.least.specs.Lists.{joined}
 use Rattle.text.specs.Bytes.{bytes, lineOf}
 use Rattle.text.specs.Decimal.{digitsOf}
 use Rattle.load.specs.declared.Row.{Row}
-use Rattle.listing.specs.Listing.{Ceiling, Share, ceilingLine, shareLine, shareLines, loadLine}
-use Rattle.listing.specs.Shares.{headOf, named, bare, ceilingLines}
+use Rattle.listing.specs.Listing.{ceilingLine, shareLine, loadLine}
+use Rattle.listing.specs.Shares.{headOf, named, bare}
 
 -- a field with the byte behind it
 abbrev pub closed : List ℕ → ℕ → List ℕ

@@ -1,13 +1,13 @@
 -- The laws of `written`: nothing, one byte, two pieces one behind another, the length; and what is left to write.
 -- Assumes nothing.
 use Prim.Native.Nat.{ℕ, suc, _+_, _≤_, _<_}
-use native.Mathlib.Nat.{add-zero, zero-add, add-assoc}
+use native.Mathlib.Nat.{add-zero, zero-add}
 use native.Mathlib.Numerals.{add-one}
 use native.Mathlib.Omega.{arith}
 use mathlib.Core.Path.{_≡_, refl, sym, ap, ap₂, subst, _∙_}
 use mathlib.Core.List.{List, [], _∷_, _++_, append-nil, append-assoc}
 use lib.ListN.{length, take, drop, getD, set, length-set, length-append, length-drop, take-append-drop, drop-of-length-le}
-use lib.Seq.{length-take-le, take-at, drop-at, drop-drop, drop-cons, drop-append-add, take-set-le, drop-set-lt, getD-set-same, set-split, append-snoc}
+use lib.Seq.{length-take-le, take-at, drop-drop, drop-cons, drop-append-add, take-set-le, drop-set-lt, getD-set-same, set-split, append-snoc}
 use Rattle.writer.specs.Written.{written, Written}
 
 -- what stands before the end of a piece has the length that it should
@@ -124,3 +124,6 @@ left-copied-all at word before i now h l = left-none (subst (λ (r : List ℕ). 
 pub written-start : (p b : List ℕ) → written 0 p b ≡ p ++ drop (length p) b
 unfolding written
 written-start p b = ap (λ (k : ℕ). p ++ drop k b) (zero-add (length p))
+
+pub written-whole : {text before after : List ℕ} {next : ℕ} → Written 0 text before after next → (after ≡ text ++ drop (length text) before) × (next ≡ length text)
+written-whole {text} {before} w = (w .bytes ∙ written-start text before, w .place ∙ zero-add (length text))
