@@ -23,7 +23,8 @@ use Rattle.plan_file.specs.Above.{lockMentions, lockNames, partsAfter}
 use Rattle.plan_file.specs.Reading.{isPart, isEnd, allowedHere, partQuestions, taskQuestions, lockQuestions, recordQuestions, questionsAt, readLines, readFile}
 use Rattle.plan_file.specs.Numbers.{heldUnder, taskIn, locksIn, tasksIn}
 use Rattle.listing.specs.Listing.{ceilingLine, shareLine, shareLines, loadLine, loadShare, listingOf, refusedLine}
-use Rattle.planner.specs.Parts.{keptPairs, keptRows, ceilingsFrom, shareOf, sharesOf}
+use Rattle.printing.specs.Printing.{ceilingsFrom}
+use Rattle.planner.specs.Parts.{keptPairs, keptRows, shareOf, sharesOf}
 use Rattle.planner.specs.Answers.{planRows, planText, planQuestions, planParts, planOf, candidatesOf, nameOf, supplyAnswer, planned, bufferAfter, candidateList, nameBytes, supplied}
 use Rattle.examples.specs.Files.{fileA, listingA, cardAt, listingC, listingD, fileF, onePart, listingI}
 use Rattle.examples.specs.Table.{partsIn, isOn}

@@ -35,7 +35,8 @@ use Rattle.plan_file.specs.Numbers.{tasksIn}
 use Rattle.plan_file.specs.Reading.{readFile}
 use Rattle.plan_file.proofs.PartLines.{nth-of-map}
 use Rattle.listing.specs.Listing.{Ceiling, Share}
-use Rattle.planner.specs.Parts.{keptRows, ceilingsFrom, shareOf, sharesOf}
+use Rattle.printing.specs.Printing.{ceilingsFrom}
+use Rattle.planner.specs.Parts.{keptRows, shareOf, sharesOf}
 use Rattle.planner.specs.Answers.{planRows, planText, planQuestions, planParts, planOf}
 use Rattle.planner.specs.Demand3.{rowUnder, Chosen, PassingChoice, FromKept, ceilingsUnder, Stands, Printed, NoBudgetAt, Planning, Demand3}
 use Rattle.planner.specs.Demand3.NoneToPlan.{ten, eleven}

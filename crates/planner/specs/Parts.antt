@@ -4,17 +4,16 @@
 --   shareOf p r b  == what is printed of the part p with the row r and the row's bound b: each lock at the ceiling shown for r's X
 --   sharesOf ps rs bs == the same for each part, in file order
 -- Assumes nothing.
-use Prim.Native.Nat.{ℕ, suc}
 use mathlib.Core.List.{List, [], _∷_, map}
 use Rattle.least.specs.declared.Frac.{Frac}
-use Rattle.task_set.specs.declared.Task.{Task}
 use Rattle.candidates.specs.declared.Pair.{Pair}
-use Rattle.candidates.specs.Candidates.{keptList, shownCeiling}
+use Rattle.candidates.specs.Candidates.{keptList}
 use Rattle.load.specs.declared.Row.{Row}
 use Rattle.load.specs.Load.{row}
 use Rattle.plan_file.specs.Above.{FilePart, lockNames}
 use Rattle.plan_file.specs.Numbers.{locksIn, tasksIn}
-use Rattle.listing.specs.Listing.{Ceiling, Share}
+use Rattle.listing.specs.Listing.{Share}
+use Rattle.printing.specs.Printing.{ceilingsFrom}
 
 unfoldable pub keptPairs : FilePart → List Pair
 keptPairs p = keptList (p .period) (tasksIn p) (locksIn p)
@@ -24,11 +23,6 @@ rowOf p c = row (p .period) (c .budget) (c .holding)
 
 unfoldable pub keptRows : FilePart → List Row
 keptRows p = map (rowOf p) (keptPairs p)
-
--- the locks of the given names, the first of which has the number l
-unfoldable pub ceilingsFrom : List Task → ℕ → ℕ → List (List ℕ) → List Ceiling
-ceilingsFrom ts x l [] = []
-ceilingsFrom ts x l (name ∷ names) = record { lock = name; number = shownCeiling ts x l } ∷ ceilingsFrom ts x (suc l) names
 
 unfoldable pub shareOf : FilePart → Row → Frac → Share
 shareOf p r b = record { name = p .name; row = r; bound = b; ceilings = ceilingsFrom (tasksIn p) (r .holding) 1 (lockNames p) }

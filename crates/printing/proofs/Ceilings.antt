@@ -1,0 +1,51 @@
+-- The ceilings that were worked out are the ceilings shown, lock by lock.
+-- Assumes nothing.
+use Prim.Native.Nat.{ℕ, zero, suc, _+_, _≤_, _<_}
+use native.Mathlib.Nat.{add-suc, add-zero}
+use native.Mathlib.Omega.{arith}
+use mathlib.Core.Path.{_≡_, refl, sym, ap, ap₂, _∙_}
+use mathlib.Core.List.{List, [], _∷_, map}
+use lib.ListN.{length, take, getD, length-map}
+use lib.Seq.{length-take-le}
+use Rattle.least.specs.declared.Frac.{Frac}
+use Rattle.task_set.specs.declared.Task.{Task}
+use Rattle.task_set.specs.Tasks.{tasksOf}
+use Rattle.candidates.specs.Candidates.{shownCeiling}
+use Rattle.load.specs.declared.Row.{Row}
+use Rattle.scan.specs.Scan.{bytesOf}
+use Rattle.plan_file.specs.declared.Names.{Names}
+use Rattle.plan_file.specs.Entries.{FineNames, namesOf}
+use Rattle.reader.specs.declared.PartRead.{PartRead}
+use Rattle.reader.specs.Reader.{FineCounts}
+use Rattle.listing.specs.Listing.{Ceiling}
+use Rattle.listing.specs.Shares.{ceilingsOf, shareFrom, FineLocks}
+use Rattle.shown.specs.Shown.{ShownAre}
+use Rattle.printing.specs.Printing.{ceilingsFrom, shareRead}
+
+-- the locks from the number l on
+ceilings-same : (ts : List Task) (x l : ℕ) (names : List (List ℕ)) (cs : List ℕ) → length names ≤ length cs → ((j : ℕ) → j < length names → getD cs j 0 ≡ shownCeiling ts x (l + j))
+    → ceilingsOf names cs ≡ ceilingsFrom ts x l names
+unfolding ceilingsOf ceilingsFrom
+ceilings-same ts x l [] cs h shown = refl
+ceilings-same ts x l (name ∷ names) [] h shown = absurd (omega arith)
+ceilings-same ts x l (name ∷ names) (c ∷ cs) h shown =
+    let first : c ≡ shownCeiling ts x l = shown 0 (omega arith) ∙ ap (shownCeiling ts x) (add-zero l) in
+    let later : ceilingsOf names cs ≡ ceilingsFrom ts x (suc l) names =
+    ceilings-same ts x (suc l) names cs (omega arith) (λ j k. let e : l + suc j ≡ suc l + j = omega arith in shown (suc j) (omega arith) ∙ ap (shownCeiling ts x) e) in
+    ap₂ (λ (n : ℕ) (rest : List Ceiling). record { lock = name; number = n } ∷ rest) first later
+
+names-length : (s : List ℕ) (locks : Names) → FineNames locks → length (namesOf s locks) ≡ locks .count
+unfolding namesOf
+names-length s locks f = length-map (take (locks .count) (locks .span)) (bytesOf s) ∙ length-take-le (locks .count) (locks .span) (omega (arith, f .few, f .room))
+
+-- what the writer of a part is handed stands for what is printed of it
+pub share-read : (s : List ℕ) (p : PartRead) (r : Row) (b : Frac) (cs : List ℕ) → FineCounts p → FineLocks (p .locks) cs → ShownAre (p .part) (r .holding) cs
+    → shareFrom s (p .name) r b (p .locks) cs ≡ shareRead s p r b
+unfolding shareFrom shareRead
+share-read s p r b cs f locks shown =
+    let names = namesOf s (p .locks) in
+    let count : length names ≡ p .part .locks = names-length s (p .locks) (f .names) ∙ sym (f .locks-are) in
+    let numbers : (j : ℕ) → j < length names → getD cs j 0 ≡ shownCeiling (tasksOf (p .part)) (r .holding) (1 + j) =
+    λ j h. let e : suc j ≡ 1 + j = omega arith in shown j (omega (arith, count)) ∙ ap (shownCeiling (tasksOf (p .part)) (r .holding)) e in
+    ap (λ (ceilings : List Ceiling). record { name = bytesOf s (p .name); row = r; bound = b; ceilings = ceilings })
+    (ceilings-same (tasksOf (p .part)) (r .holding) 1 names cs (omega (arith, count, f .locks-are, locks .room)) numbers)

@@ -1,0 +1,36 @@
+// The listing of a plan: how long it is, and how it is written into a lent buffer.
+use least::Frac;
+use load::Row;
+use load::Rows;
+use reader::PartRead;
+use reader::PlanFile;
+ghost use mathlib.Core.Path.{_≡_};
+ghost use Prim.Native.Nat.{_+_, _^_, _≤_};
+ghost use lib.ListN.{length};
+ghost use Rattle.task_set.specs.Fine.{FinePart};
+ghost use Rattle.reader.specs.Reader.{FineCounts};
+ghost use Rattle.writer.specs.Written.{Written};
+ghost use Rattle.listing.specs.Listing.{shareLines};
+ghost use Rattle.printing.specs.Printing.{shareRead};
+
+// How long all lines of a part are.
+fn part_length(file: &[u8], p: PartRead, row: Row, bound: Frac) -> usize
+    requires { ⌜ FinePart (p .part) ⌝ }
+    requires { ⌜ FineCounts p ⌝ }
+    requires { ⌜ length (now file) ≤ 2 ^ 32 ⌝ }
+    ensures { λ r. ⌜ (r ≡ length (shareLines (shareRead (now (file .entry)) p row bound))) × (r ≤ 2 ^ 37) ⌝ }
+{
+    let ceilings = shown::shown_ceilings(p.part, row.holding);
+    listing::share_length(file, p.name, row, bound, p.locks, &ceilings)
+}
+
+// All lines of a part.
+fn write_part(file: &[u8], p: PartRead, row: Row, bound: Frac, out: &mut [u8], at: usize) -> usize
+    requires { ⌜ FinePart (p .part) ⌝ }
+    requires { ⌜ FineCounts p ⌝ }
+    requires { ⌜ at + length (shareLines (shareRead (now file) p row bound)) ≤ length (now out) ⌝ }
+    ensures { λ r. ⌜ Written at (shareLines (shareRead (now (file .entry)) p row bound)) (now (out .entry)) (now (out .exit)) r ⌝ }
+{
+    let ceilings = shown::shown_ceilings(p.part, row.holding);
+    listing::write_share(file, p.name, row, bound, p.locks, &ceilings, out, at)
+}
