@@ -6,7 +6,7 @@
 --   listingAt k shares == the `load` line of the k-th share, counted from 1, then every share
 --   FineFile f == from 1 to 16 parts, in sixteen places, each with numbers in range and with as many lock names as locks
 --   sharesIn s f rows bounds == the shares of all parts of the struct `PlanFile`, with these rows and bounds
---   ToPrint s f rows bounds k == all of these stand at their places, k is the number of a row, and the file is not too long to measure
+--   ToPrint s f rows k == the parts are fine, there is a row for each, k is the number of one, and the file is not too long to measure
 -- Assumes nothing.
 use Prim.Native.Nat.{ℕ, suc, _^_, _≤_, _<_}
 use mathlib.Core.Path.{_≡_}
@@ -58,7 +58,7 @@ pub record FineFile (f : PlanFile) : Type 0 where
   pub parts : (k : ℕ) → k < f .count → FinePart (getD (f .parts) k noPartRead .part)
   pub counts : (k : ℕ) → k < f .count → FineCounts (getD (f .parts) k noPartRead)
 
-pub record ToPrint (s : List ℕ) (f : PlanFile) (rows : Rows) (bounds : List Frac) (k : ℕ) : Type 0 where
+pub record ToPrint (s : List ℕ) (f : PlanFile) (rows : Rows) (k : ℕ) : Type 0 where
   pub fine : FineFile f
   pub short : length s ≤ 2 ^ 32
   pub count-is : rows .count ≡ f .count
