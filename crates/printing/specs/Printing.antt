@@ -4,8 +4,8 @@
 --   sharesRead s ps rs bs == the same for each part, in file order
 --   noShare == a share with nothing in it, for a place where there is none
 --   listingAt k shares == the `load` line of the k-th share, counted from 1, then every share
---   FineFile f == from 1 to 16 parts, in sixteen places, each with numbers in range and with as many lock names as locks
 --   sharesIn s f rows bounds == the shares of all parts of the struct `PlanFile`, with these rows and bounds
+--   FineFile f == at most 16 parts, in sixteen places, each with numbers in range and with as many lock names as locks
 --   ToPrint s f rows k == the parts are fine, there is a row for each, k is the number of one, and the file is not too long to measure
 -- Assumes nothing.
 use Prim.Native.Nat.{ℕ, suc, _^_, _≤_, _<_}
@@ -52,7 +52,6 @@ unfoldable pub sharesIn : List ℕ → PlanFile → Rows → List Frac → List 
 sharesIn s f rows bounds = sharesRead s (take (f .count) (f .parts)) (rowsOf rows) (take (f .count) bounds)
 
 pub record FineFile (f : PlanFile) : Type 0 where
-  pub some : 1 ≤ f .count
   pub few : f .count ≤ 16
   pub room : length (f .parts) ≡ 16
   pub parts : (k : ℕ) → k < f .count → FinePart (getD (f .parts) k noPartRead .part)

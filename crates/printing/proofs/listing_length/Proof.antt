@@ -1,10 +1,9 @@
 -- `printing::listing_length` meets its contract. The invariant: the lines from the part k on are left to measure.
 -- Assumes nothing.
-use Prim.Native.Nat.{ℕ, _+_, _*_, _-_, _^_, _≤_}
+use Prim.Native.Nat.{_+_, _*_, _-_, _^_, _≤_}
 use native.Mathlib.Omega.{arith}
 use borrow.Author.Needs.{needs}
 use mathlib.Core.Path.{_≡_, ap}
-use mathlib.Core.List.{List}
 use lib.ListN.{length, length-map}
 use Rattle.printing.specs.Printing.{listingAt, sharesIn}
 use Rattle.printing.proofs.Shares.{linesOf, Placed, placed, part-fine, part-counts, sharesFrom, parts-more-length, parts-end, listing-length}

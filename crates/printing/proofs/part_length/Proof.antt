@@ -1,6 +1,6 @@
 -- `printing::part_length` meets its contract.
 -- Assumes nothing.
-use mathlib.Core.Path.{ap, _∙_}
+use mathlib.Core.Path.{_≡_, subst}
 use lib.ListN.{length}
 use borrow.Author.Needs.{needs}
 use Rattle.listing.specs.Listing.{Share, shareLines}
@@ -20,8 +20,12 @@ returns c =
     let s = c .before .before .before .before in
     let a = s .args in
     let cs = c .before .before .shown-ceilings .result in
-    let locks : FineLocks (a .p .locks) cs = search needs in
-    (c .share-length .ensures .0 ∙ ap (λ (share : Share). length (shareLines share)) (share-read (a .file .now) (a .p) (a .row) (a .bound) cs (s .pre .1 .0) locks (c .before .before .shown-ceilings .ensures)), c .share-length .ensures .1)
+    let locks : FineLocks (a .p .locks) cs = search needs in (
+      subst (λ (share : Share). c .share-length .result ≡ length (shareLines share))
+          (share-read (a .file .now) (a .p) (a .row) (a .bound) cs (s .pre .1 .0) locks (c .before .before .shown-ceilings .ensures))
+          (c .share-length .ensures .0),
+      c .share-length .ensures .1,
+    )
 
 pub part-length-spec : {M : Type 1} → statement M
 part-length-spec = tie.close (tie.spec shown-ceilings-requires share-length-requires returns)

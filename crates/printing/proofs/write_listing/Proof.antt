@@ -5,7 +5,7 @@ use native.Mathlib.Omega.{arith}
 use borrow.Author.Needs.{needs}
 use mathlib.Core.Path.{_∙_}
 use mathlib.Core.List.{List, _++_}
-use lib.ListN.{length, length-map}
+use lib.ListN.{length-map}
 use Rattle.writer.proofs.Written.{Left, left-start, left-as, left-room, left-more, left-none, left-last}
 use Rattle.listing.specs.Listing.{shareLines}
 use Rattle.printing.specs.Printing.{listingAt, sharesIn}

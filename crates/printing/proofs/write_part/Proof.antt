@@ -6,7 +6,7 @@ use mathlib.Core.List.{List}
 use lib.ListN.{length}
 use borrow.Author.Needs.{needs}
 use Rattle.writer.specs.Written.{Written}
-use Rattle.listing.specs.Listing.{Share, shareLines}
+use Rattle.listing.specs.Listing.{shareLines}
 use Rattle.listing.specs.Shares.{shareFrom, FineLocks}
 use Rattle.printing.specs.Printing.{shareRead}
 use Rattle.printing.proofs.Ceilings.{share-read}
