@@ -1,14 +1,13 @@
 -- The kept lists of the parts, gathered one after another.
 -- Assumes nothing.
-use Prim.Native.Nat.{ℕ, suc, _+_, _*_, _≤_, _<_}
+use Prim.Native.Nat.{ℕ, _+_, _*_, _≤_, _<_}
 use native.Mathlib.Omega.{arith}
 use native.Mathlib.Decide.{ℕ-discrete}
-use mathlib.Core.Path.{_≡_, refl, sym, ap, _∙_}
+use mathlib.Core.Path.{_≡_, ap, _∙_}
 use mathlib.Core.List.{List}
 use lib.ListN.{length, getD, set, length-set}
 use lib.Seq.{getD-set-same, getD-set-other}
 use Rattle.least.proofs.Pad.{getD-pad}
-use Rattle.task_set.specs.declared.Part.{Part}
 use Rattle.task_set.specs.Tasks.{tasksOf}
 use Rattle.task_set.proofs.Places.{tasks-length}
 use Rattle.task_set.proofs.ByLock.{lowest-some}

@@ -1,9 +1,8 @@
 -- What is gathered, as the rows that the parts offer: those of their kept pairs, in order and in range.
---   partRows f k == the kept pairs of the part at the place k as rows
 -- Assumes nothing.
 use Prim.Native.Nat.{ℕ, zero, suc, _≤_, _<_}
 use native.Mathlib.Omega.{arith}
-use mathlib.Core.Path.{_≡_, refl, sym, ap, ap₂, _∙_}
+use mathlib.Core.Path.{_≡_, refl, sym, _∙_}
 use mathlib.Core.List.{List, [], _∷_, map, List·Memᴰ·head}
 use lib.ListN.{length, getD, length-map, List·getD-map}
 use lib.Seq.{ext-getD}
@@ -13,23 +12,19 @@ use Rattle.least.proofs.Columns.{column-length, column-get}
 use Rattle.least.proofs.Members.{getD-member}
 use Rattle.least.proofs.Pairwise.{Pairwise}
 use Rattle.task_set.specs.Tasks.{tasksOf}
-use Rattle.candidates.specs.declared.Pair.{Pair}
 use Rattle.candidates.specs.Candidates.{pair}
-use Rattle.candidates.specs.Statement.{Candidate}
 use Rattle.candidates.proofs.Candidates.{kept-iff}
 use Rattle.candidates.proofs.Walk.{Behind, kept-ordered}
 use Rattle.candidates.proofs.Turn.{candidate-small}
 use Rattle.budget.proofs.Passing.{budget-iff}
 use Rattle.load.specs.declared.Row.{Row}
-use Rattle.load.specs.Load.{row, rowSum}
+use Rattle.load.specs.Load.{row}
 use Rattle.load.specs.Code.{FineRow}
 use Rattle.selection.specs.Code.{offerAt, offersOf, FineOffers}
 use Rattle.reader.specs.declared.PlanFile.{PlanFile}
 use Rattle.offers.specs.Gathered.{partIn, listIn, FineParts, OfferedAt}
+use Rattle.offers.specs.Least.{partRows, rowsIn}
 use Rattle.offers.proofs.Gathering.{list-most}
-
-unfoldable pub partRows : PlanFile → ℕ → List Row
-partRows f k = map (λ c. row (partIn f k .period) (c .budget) (c .holding)) (listIn f k)
 
 -- two neighbours in a list
 neighbours : {A : Type 0} {R : A → A → Type 0} (d : A) (xs : List A) → Pairwise R xs → (i : ℕ) → suc i < length xs → R (getD xs i d) (getD xs (suc i) d)
@@ -55,8 +50,8 @@ module _ (f : PlanFile) (fine : FineParts f) (periods counts budgets holdings : 
       let m : i < length (listIn f k) = omega (arith, column-length (offerAt periods budgets holdings k) (length (listIn f k))) in
       column-get (offerAt periods budgets holdings k) (row (partIn f k .period) 0 0) i (length (listIn f k)) m ∙ offer-is k i h m ∙ sym (List·getD-map (λ c. row (partIn f k .period) (c .budget) (c .holding)) (listIn f k) i (pair 0 0))))
 
-  pub offers-are : offersOf periods budgets holdings counts (f .count) ≡ map (partRows f) (countFrom 0 (f .count))
-  unfolding offersOf
+  pub offers-are : offersOf periods budgets holdings counts (f .count) ≡ rowsIn f
+  unfolding offersOf rowsIn
   offers-are = map-same _ _ (countFrom 0 (f .count)) (λ k m. part-offers k (omega (arith, count-from (f .count) 0 k m .1)))
 
   -- a kept pair's numbers

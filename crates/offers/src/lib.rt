@@ -1,10 +1,16 @@
 // The kept lists of all parts of a file, as rows to choose from: the pair at the place i of the part k, both from 0, at 121 k + i.
 use candidates::Kept;
+use load::Row;
+use load::Rows;
 use reader::PlanFile;
+use refusal::Outcome;
+use refusal::Refusal;
 ghost use mathlib.Core.Path.{_≡_};
 ghost use Prim.Native.Nat.{_≤_, _<_};
 ghost use lib.ListN.{length};
+ghost use Rattle.load.specs.ByColumn.{rowsBy, FineColumns};
 ghost use Rattle.offers.specs.Gathered.{FineParts, budgetIn, holdingIn, Stored, Gathered};
+ghost use Rattle.offers.specs.Least.{rowsFrom, noRows, planRowsOf};
 
 // The pairs of the part k at its places.
 fn store(kept: Kept, k: usize, budgets: &mut [u64], holdings: &mut [u64])
@@ -61,5 +67,79 @@ pub fn offers_of(f: PlanFile) -> Offers
         counts,
         budgets,
         holdings,
+    }
+}
+
+// The rows of a choice, from what each costs and how long it holds.
+fn rows_by(periods: &[u64; 16], sums: &[u64; 16], holdings: &[u64; 16], n: usize) -> Rows
+    requires { ⌜ FineColumns (now periods) (now sums) (now holdings) n ⌝ }
+    ensures { λ r. ⌜ r ≡ rowsFrom (rowsBy (now (periods .entry)) (now (sums .entry)) (now (holdings .entry)) n) n ⌝ }
+{
+    let none = Row {
+        period: 0,
+        budget: 0,
+        holding: 0,
+    };
+    let mut rows = [none; 16];
+    let mut k = 0;
+    while k < n {
+        rows[k] = Row {
+            period: periods[k],
+            budget: sums[k] - holdings[k],
+            holding: holdings[k],
+        };
+        k += 1;
+    }
+    Rows { rows, count: n }
+}
+
+// The rows of the plan, or refusal 10 or 11.
+pub struct PlanRows {
+    pub outcome: Outcome,
+    pub rows: Rows,
+}
+
+fn no_rows(r: Refusal) -> PlanRows
+    ensures { λ x. ⌜ x ≡ noRows r ⌝ }
+{
+    let none = Row {
+        period: 0,
+        budget: 0,
+        holding: 0,
+    };
+    PlanRows {
+        outcome: Outcome::Refused(r),
+        rows: Rows {
+            rows: [none; 16],
+            count: 0,
+        },
+    }
+}
+
+// Questions 10 and 11 of a file that was read, and the rows of least load.
+pub fn plan_rows(f: PlanFile) -> PlanRows
+    requires { ⌜ FineParts f × (1 ≤ f .count) ⌝ }
+    ensures { λ r. ⌜ r ≡ planRowsOf f ⌝ }
+{
+    let n = f.count;
+    let offers = offers_of(f);
+    let missing = offers.missing;
+    if missing != 0 {
+        return no_rows(Refusal::NoBudget(missing as u64));
+    }
+    let periods = offers.periods;
+    let counts = offers.counts;
+    let budgets = offers.budgets;
+    let holdings = offers.holdings;
+    let choice = selection::select(&periods, &budgets, &holdings, &counts, n);
+    if !choice.found {
+        return no_rows(Refusal::NoChoice);
+    }
+    let sums = choice.sums;
+    let held = choice.holdings;
+    let rows = rows_by(&periods, &sums, &held, n);
+    PlanRows {
+        outcome: Outcome::Done,
+        rows,
     }
 }

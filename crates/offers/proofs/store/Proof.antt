@@ -1,8 +1,7 @@
 -- `offers::store` meets its contract: each turn stores one pair.
 -- Assumes nothing.
-use Prim.Native.Nat.{ℕ, _-_, _≤_}
+use Prim.Native.Nat.{_-_, _≤_}
 use native.Mathlib.Omega.{arith}
-use borrow.Author.Needs.{needs}
 use mathlib.Core.Path.{_≡_, refl}
 use Rattle.offers.specs.Gathered.{budgetIn, holdingIn}
 use Rattle.offers.proofs.Stores.{StoredTo, store-start, store-step, store-end}
