@@ -4,3 +4,4 @@ pub mod Local
 pub mod KeptRows
 pub mod Demand3
 pub mod Exactly
+pub mod Planning

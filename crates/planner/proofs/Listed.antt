@@ -35,7 +35,7 @@ unfolding candidatesOf whenAnswered
 candidates-refused s k r e = rw e refl
 
 -- the kept pairs of a part of the file are those of the part that was handed on
-kept-same : (p : Part) (q : FilePart) → PartFine p q → keptPairs q ≡ keptList (p .period) (tasksOf p) (p .locks)
+pub kept-same : (p : Part) (q : FilePart) → PartFine p q → keptPairs q ≡ keptList (p .period) (tasksOf p) (p .locks)
 unfolding keptPairs
 kept-same p q f =
     ap₂ (λ (P m : ℕ). keptList P (tasksIn q) m) (sym (f .period-is)) (sym (f .locks-are)) ∙ ap (λ (ts : List Task). keptList (p .period) ts (p .locks)) (sym (f .tasks-are))
