@@ -80,16 +80,16 @@ shares-bounds [] (more k ks) e = absurd (omega arith)
 shares-bounds (b ∷ bs) (more k ks) e = ap (λ (bs : List Frac). b ∷ bs) (shares-bounds bs ks (omega arith))
 
 module _ (ps : List FilePart) where
-  abbrev everyKept : Bool
+  abbrev pub everyKept : Bool
   everyKept = every (λ rows. not (isEmpty rows)) (map keptRows ps)
 
-  abbrev keptChoices : List (List Row)
+  abbrev pub keptChoices : List (List Row)
   keptChoices = choices (map keptRows ps)
 
-  abbrev leastRows : List Row
+  abbrev pub leastRows : List Row
   leastRows = leastLoaded keptChoices
 
-  abbrev text : List ℕ
+  abbrev pub text : List ℕ
   text = planText ps (planRows (map keptRows ps))
 
   -- question 10
@@ -185,11 +185,11 @@ module _ (ps : List FilePart) where
     text-or-14 true = refl
     text-or-14 false = refl
 
-    planned-or-14 : everyKept ≡ true → some passesSystem keptChoices ≡ true → planParts ps room ≡ cond (leb (length text) room) (answered text) (refused NoRoom)
+    pub planned-or-14 : everyKept ≡ true → some passesSystem keptChoices ≡ true → planParts ps room ≡ cond (leb (length text) room) (answered text) (refused NoRoom)
     unfolding planParts planQuestions firstNo
     planned-or-14 e f = simp (e, f) (text-or-14 (leb (length text) room))
 
-plan-parts : (s : List ℕ) (ps : List FilePart) (room : ℕ) → readFile s ≡ answered ps → planOf s room ≡ planParts ps room
+pub plan-parts : (s : List ℕ) (ps : List FilePart) (room : ℕ) → readFile s ≡ answered ps → planOf s room ≡ planParts ps room
 unfolding planOf whenAnswered
 plan-parts s ps room e = rw e refl
 

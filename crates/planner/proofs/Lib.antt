@@ -5,3 +5,5 @@ pub mod KeptRows
 pub mod Demand3
 pub mod Exactly
 pub mod Planning
+pub mod Weighed
+pub mod Answering
