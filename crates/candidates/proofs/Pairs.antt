@@ -11,7 +11,7 @@ use lib.Seq.{getD-set-same, getD-set-other}
 use Rattle.least.specs.Lists.{countFrom, pad}
 use Rattle.least.proofs.Lists.{count-from, count-to, map-same}
 use Rattle.least.proofs.Sums.{length-count}
-use Rattle.least.proofs.Pad.{set-pad}
+use Rattle.least.proofs.Pad.{pad-none, set-pad}
 use Rattle.least.proofs.Pairwise.{Pairwise, pairwise-front}
 use Rattle.candidates.specs.declared.Pair.{Pair}
 use Rattle.candidates.specs.declared.Kept.{Kept}
@@ -29,11 +29,6 @@ map-next {A} f (suc n) a = let e : suc a + n ≡ a + suc n = omega arith in ap (
 pairs-same : (bs hs cs ks : List ℕ) (n : ℕ) → ((k : ℕ) → k < n → getD bs k 0 ≡ getD cs k 0) → ((k : ℕ) → k < n → getD hs k 0 ≡ getD ks k 0) → pairsOf bs hs n ≡ pairsOf cs ks n
 unfolding pairsOf
 pairs-same bs hs cs ks n b h = map-same _ _ (countFrom 0 n) (λ k m. let l : k < n = omega (arith, count-from n 0 k m .1) in ap₂ pair (b k l) (h k l))
-
-pad-none : {A : Type 0} (k : ℕ) (z : A) → replicate k z ≡ pad k z []
-unfolding pad
-pad-none zero z = refl
-pad-none {A} (suc k) z = ap (λ (l : List A). z ∷ l) (pad-none k z)
 
 module _ (budgets holdings : List ℕ) where
   pub pairs-none : pairsOf budgets holdings 0 ≡ []

@@ -21,8 +21,8 @@ use Rattle.candidates.specs.declared.Pair.{Pair}
 use Rattle.candidates.specs.Candidates.{pair, withCeiling, settings, candidateOf, candidatesIn, keptAmong, keptList}
 use Rattle.plan_file.specs.Numbers.{tasksIn, locksIn}
 use Rattle.plan_file.specs.Reading.{readFile}
-use Rattle.planner.specs.Parts.{keptPairs}
-use Rattle.planner.specs.Answers.{candidatesOf}
+use Rattle.answers.specs.Parts.{keptPairs}
+use Rattle.answers.specs.Answers.{candidatesOf}
 use Rattle.examples.specs.Files.{fileF}
 use Rattle.examples.specs.Table.{partAt}
 use Rattle.examples.proofs.Opened.{opened}

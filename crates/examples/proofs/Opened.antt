@@ -24,8 +24,8 @@ use Rattle.plan_file.specs.Reading.{isPart, isEnd, allowedHere, partQuestions, 
 use Rattle.plan_file.specs.Numbers.{heldUnder, taskIn, locksIn, tasksIn}
 use Rattle.listing.specs.Listing.{ceilingLine, shareLine, shareLines, loadLine, loadShare, listingOf, refusedLine}
 use Rattle.printing.specs.Printing.{ceilingsFrom}
-use Rattle.planner.specs.Parts.{keptPairs, keptRows, shareOf, sharesOf}
-use Rattle.planner.specs.Answers.{planRows, planText, planQuestions, planParts, planOf, candidatesOf, nameOf, supplyAnswer, planned, bufferAfter, candidateList, nameBytes, supplied}
+use Rattle.answers.specs.Parts.{keptPairs, keptRows, shareOf, sharesOf}
+use Rattle.answers.specs.Answers.{planRows, planText, planQuestions, planParts, planOf, candidatesOf, nameOf, supplyAnswer, planned, bufferAfter, candidateList, nameBytes, supplied}
 use Rattle.examples.specs.Files.{fileA, listingA, cardAt, listingC, listingD, fileF, onePart, listingI}
 use Rattle.examples.specs.Table.{partsIn, isOn}
 

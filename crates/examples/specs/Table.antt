@@ -26,7 +26,7 @@ use Rattle.plan_file.specs.Above.{FilePart, noPart}
 use Rattle.fields.specs.Fields.{isNumber}
 use Rattle.plan_file.specs.Reading.{readFile}
 use Rattle.plan_file.specs.Numbers.{tasksIn, locksIn}
-use Rattle.planner.specs.Answers.{planOf, candidatesOf, supplyAnswer}
+use Rattle.answers.specs.Answers.{planOf, candidatesOf, supplyAnswer}
 use Rattle.examples.specs.Files.{fileA, listingA, cardAt, listingC, listingD, fileF, onePart, listingI}
 
 pub data Claim : Type 0 where

@@ -10,7 +10,7 @@ use mathlib.Core.Bool.{Bool, true, false, not, _&&_, _||_, false≢true}
 use mathlib.Core.Logic.{_⊎_, inl, inr, ⊎-elim, _↔_}
 use mathlib.Core.List.{List, [], _∷_, _++_, map, List·Memᴰ, List·Memᴰ·head, List·Memᴰ·tail, List·Memᴰ·not-nil, List·Memᴰ·cases-cons, List·Memᴰ·append-cases, List·Memᴰ·eq-of-singleton, Memᴰ·cast, Memᴰ·append-left, Memᴰ·append-right, Memᴰ·map, Memᴰ·of-map}
 use lib.ListN.{length, getD}
-use Rattle.least.specs.Lists.{smallest, countFrom, range, nthOr, every, some, those, joined, firstFrom, firstOf}
+use Rattle.least.specs.Lists.{smallest, countFrom, range, isEmpty, nthOr, every, some, those, joined, firstFrom, firstOf}
 
 -- two tests at once
 pub and-iff : (a b : Bool) → ((a && b) ≡ true) ↔ ((a ≡ true) × (b ≡ true))
@@ -48,6 +48,17 @@ unfolding range
 range-iff a e l = ((λ m. let h = count-from (suc e - a) a l m in (h .0, omega arith)), λ h. count-to (suc e - a) a l (h .0) (omega arith))
 
 module _ {A : Type 0} where
+  -- a list without an element, and one with some
+  pub empty-none : (xs : List A) → length xs ≡ 0 → isEmpty xs ≡ true
+  unfolding isEmpty
+  empty-none [] e = refl
+  empty-none (x ∷ xs) e = absurd (omega arith)
+
+  pub some-filled : (xs : List A) → 1 ≤ length xs → isEmpty xs ≡ false
+  unfolding isEmpty
+  some-filled [] h = absurd (omega arith)
+  some-filled (x ∷ xs) h = refl
+
   -- every
   pub every-none : (test : A → Bool) → every test [] ≡ true
   unfolding every

@@ -8,6 +8,7 @@ use mathlib.Core.List.{List, [], _∷_}
 use lib.ListN.{length, take, getD, set, replicate, length-map}
 use lib.Seq.{take-all}
 use Rattle.least.specs.Lists.{isEmpty, every, some, firstOf, pad}
+use Rattle.least.proofs.Lists.{empty-none, some-filled}
 use Rattle.least.proofs.Columns.{column-length, column-get}
 use Rattle.least.proofs.First.{first-is, every-place, every-missed}
 use Rattle.least.proofs.Pad.{pad-none, pad-next}
@@ -46,16 +47,6 @@ module _ (periods sums holdings : List ℕ) (n : ℕ) where
   rows-end rows k q e =
       let all : take k (rowsBy periods sums holdings n) ≡ rowsBy periods sums holdings n = take-all k (rowsBy periods sums holdings n) (omega (arith, column-length (rowAt periods sums holdings) n)) in
       ap (λ (xs : List Row). record { rows = xs; count = n }) (e ∙ ap (pad 16 (row 0 0 0)) all)
-
-empty-none : {A : Type 0} (xs : List A) → length xs ≡ 0 → isEmpty xs ≡ true
-unfolding isEmpty
-empty-none [] e = refl
-empty-none (x ∷ xs) e = absurd (omega arith)
-
-some-filled : {A : Type 0} (xs : List A) → 1 ≤ length xs → isEmpty xs ≡ false
-unfolding isEmpty
-some-filled [] h = absurd (omega arith)
-some-filled (x ∷ xs) h = refl
 
 module _ (f : PlanFile) where
   rows-length : length (rowsIn f) ≡ f .count

@@ -17,7 +17,6 @@ use Rattle.candidates.proofs.Candidates.{kept-iff}
 use Rattle.candidates.proofs.Walk.{Behind, kept-ordered}
 use Rattle.candidates.proofs.Turn.{candidate-small}
 use Rattle.budget.proofs.Passing.{budget-iff}
-use Rattle.load.specs.declared.Row.{Row}
 use Rattle.load.specs.Load.{row}
 use Rattle.load.specs.Code.{FineRow}
 use Rattle.selection.specs.Code.{offerAt, offersOf, FineOffers}

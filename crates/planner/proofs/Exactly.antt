@@ -21,7 +21,8 @@ use Rattle.load.specs.Load.{row}
 use Rattle.plan_file.specs.Above.{FilePart, noPart}
 use Rattle.plan_file.specs.Reading.{readFile}
 use Rattle.listing.specs.Listing.{Share}
-use Rattle.planner.specs.Demand3.{Choice, PassingChoice, Stands, Printed, NoneToPlan, Planning, Demand3}
+use Rattle.answers.specs.Choice.{Choice, PassingChoice}
+use Rattle.planner.specs.Demand3.{Stands, Printed, NoneToPlan, Planning, Demand3}
 use Rattle.planner.specs.Demand3.NoneToPlan.{ten, eleven}
 use Rattle.planner.specs.Demand3.Planning.{refusing, planning}
 

@@ -1,9 +1,3 @@
-pub mod Named
-pub mod Listed
 pub mod Local
-pub mod KeptRows
 pub mod Demand3
 pub mod Exactly
-pub mod Planning
-pub mod Weighed
-pub mod Answering

@@ -16,8 +16,8 @@ use Rattle.plan_file.specs.Above.{FilePart, noPart}
 use Rattle.plan_file.specs.Reading.{readFile}
 use Rattle.plan_file.specs.PartLines.{linesOfPart}
 use Rattle.plan_file.proofs.PartLines.{partIn, part-by-lines}
-use Rattle.planner.specs.Parts.{keptPairs}
-use Rattle.planner.specs.Answers.{candidatesOf, candidateList}
+use Rattle.answers.specs.Parts.{keptPairs}
+use Rattle.answers.specs.Answers.{candidatesOf, candidateList}
 
 pub kept-local : (s u : List ℕ) (j k : ℕ) (ps us : List FilePart) → readFile s ≡ answered ps → readFile u ≡ answered us → 1 ≤ j → j ≤ length ps → 1 ≤ k → k ≤ length us → linesOfPart j s ≡ linesOfPart k u → keptPairs (nthOr noPart j ps) ≡ keptPairs (nthOr noPart k us)
 kept-local s u j k ps us e f _ _ _ _ same = ap keptPairs (part-by-lines s ps j e ∙ (ap partIn same ∙ sym (part-by-lines u us k f)))

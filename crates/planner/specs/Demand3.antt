@@ -1,8 +1,4 @@
 -- Demand 3 as a statement, for every file and every room, over every setting and every budget.
---   Chosen p r        == r is a row of the part p: its P, a budget that passes under a permitted setting, and that setting's X
---   Choice ps rs      == the rows of a choice: its parts in file order; so it passes the local test
---   PassingChoice ps rs == a choice that passes the system test too
---   FromKept p r      == r's budget with its X is a pair on the part's kept list
 --   Stands p s        == what is printed of p is its name and a row chosen for p under the very ceilings printed
 --   Printed ps text   == what demand 3 says of a printed plan
 --   NoneToPlan ps r   == no choice passes, and r is the refusal that says so: 10 at the first part without a budget, else 11
@@ -22,42 +18,12 @@ use Rattle.refusal.specs.declared.Refusal.the-variants.{NoBudget, NoChoice, NoR
 use Rattle.refusal.specs.Questions.{Answer}
 use Rattle.refusal.specs.Questions.Answer.{answered, refused}
 use Rattle.task_set.specs.Blocking.{Setting}
-use Rattle.holding.specs.Holding.{holdingTimeOf}
-use Rattle.budget.specs.Budget.{passes}
-use Rattle.candidates.specs.Statement.{Permitted, IsKept}
 use Rattle.load.specs.declared.Row.{Row}
-use Rattle.load.specs.Load.{row, boundsOf, loadOf, passesSystem}
+use Rattle.load.specs.Load.{boundsOf, loadOf, passesSystem}
 use Rattle.plan_file.specs.Above.{FilePart, noPart, lockNames}
-use Rattle.plan_file.specs.Numbers.{locksIn, tasksIn}
 use Rattle.plan_file.specs.Reading.{readFile}
 use Rattle.listing.specs.Listing.{Ceiling, Share, listingOf}
-
--- a budget that passes under a permitted setting of the part
-pub record Budgeted (p : FilePart) (σ : Setting) (Q : ℕ) : Type 0 where
-  pub allowed : Permitted (tasksIn p) (locksIn p) σ
-  pub some : 1 ≤ Q
-  pub most : Q ≤ p .period
-  pub passing : passes (p .period) (tasksIn p) (locksIn p) σ Q ≡ true
-
-abbrev pub rowUnder : FilePart → Setting → ℕ → Row
-rowUnder p σ Q = row (p .period) Q (holdingTimeOf (tasksIn p) (locksIn p) σ)
-
-pub record Chosen (p : FilePart) (r : Row) : Type 0 where
-  pub setting : Setting
-  pub budget : ℕ
-  pub local : Budgeted p setting budget
-  pub is : r ≡ rowUnder p setting budget
-
-abbrev pub Choice : List FilePart → List Row → Type 0
-Choice ps rs = Each Chosen ps rs
-
-pub record PassingChoice (ps : List FilePart) (rs : List Row) : Type 0 where
-  pub choice : Choice ps rs
-  pub system : passesSystem rs ≡ true
-
-pub record FromKept (p : FilePart) (r : Row) : Type 0 where
-  pub kept : IsKept (p .period) (tasksIn p) (locksIn p) (record { budget = r .budget; holding = r .holding })
-  pub period : r .period ≡ p .period
+use Rattle.answers.specs.Choice.{Budgeted, rowUnder, Chosen, PassingChoice, FromKept}
 
 -- a lock's name and its ceiling under σ, for the locks of the given names, the first of which has the number l
 abbrev pub ceilingsUnder : Setting → ℕ → List (List ℕ) → List Ceiling

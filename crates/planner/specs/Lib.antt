@@ -1,4 +1,1 @@
-pub mod Parts
-pub mod Answers
 pub mod Demand3
-pub mod Code

@@ -1,7 +1,7 @@
 // The operations for callers in C and Rust. An answer has the refusal's number and place, zero on success, and its own numbers.
 use candidates::Kept;
 ghost use mathlib.Core.Path.{_≡_};
-ghost use Rattle.planner.specs.Answers.{candidatesOf, candidateList, supplyAnswer, supplied};
+ghost use Rattle.answers.specs.Answers.{candidatesOf, candidateList, supplyAnswer, supplied};
 ghost use Rattle.planner_c.specs.Exported.{candidatesExported, supplyExported};
 
 #[repr(C)]

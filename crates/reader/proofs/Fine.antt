@@ -7,7 +7,8 @@ use mathlib.Core.Path.{_≡_, sym, ap, subst, _∙_}
 use mathlib.Core.List.{List, List·Memᴰ, Memᴰ·map}
 use lib.ListN.{length, take, getD}
 use lib.Seq.{getD-take, length-take-le}
-use Rattle.least.proofs.Lists.{nth-get, nth-member}
+use Rattle.least.proofs.Lists.{nth-get}
+use Rattle.least.proofs.Members.{getD-any, getD-member}
 use Rattle.refusal.specs.Limits.{numberLimit}
 use Rattle.task_set.specs.declared.Task.{Task}
 use Rattle.task_set.specs.declared.Part.{Part}
@@ -21,10 +22,7 @@ use Rattle.plan_file.proofs.FineTasks.{each-task-fine, each-lock-used}
 use Rattle.reader.specs.declared.PartRead.{PartRead}
 use Rattle.reader.specs.declared.PlanFile.{PlanFile}
 use Rattle.reader.specs.Reader.{ReadPart, numbersOf, partOf, FineCounts, noPartRead, ReadIs}
-use Rattle.reader.proofs.Handed.{Handed, getD-any, part-handed}
-
-getD-member : {A : Type 0} (xs : List A) (k : ℕ) (d : A) → k < length xs → List·Memᴰ (getD xs k d) xs
-getD-member xs k d h = rw nth-get at (nth-member d (suc k) xs (omega arith) h)
+use Rattle.reader.proofs.Handed.{Handed, part-handed}
 
 -- the struct's task at a place is one of the part's tasks, and within the part's locks it holds them as long
 task-member : (p : Part) → p .count ≤ length (p .tasks) → (k : ℕ) → k < p .count → List·Memᴰ (withLocks (p .locks) (getD (p .tasks) k blankTask)) (tasksOf p)

@@ -1,11 +1,12 @@
 -- What the struct that the reader hands on says of the file.
 -- Assumes nothing.
-use Prim.Native.Nat.{ℕ, zero, suc, _<_}
+use Prim.Native.Nat.{ℕ, _<_}
 use native.Mathlib.Omega.{arith}
 use mathlib.Core.Path.{_≡_, refl, sym, ap, _∙_}
-use mathlib.Core.List.{List, [], _∷_, map}
+use mathlib.Core.List.{List, map}
 use lib.ListN.{length, take, getD, length-map, List·getD-map}
 use lib.Seq.{getD-take, length-take-le}
+use Rattle.least.proofs.Members.{getD-any}
 use Rattle.refusal.specs.declared.Refusal.{Refusal}
 use Rattle.refusal.specs.declared.Outcome.{Outcome}
 use Rattle.refusal.specs.declared.Outcome.the-variants.{Done, Refused}
@@ -62,12 +63,6 @@ module _ (s : List ℕ) (f : PlanFile) (is : ReadIs s f) where
             count = omega (arith, length-map ps numbersOf, length-map (take (f .count) (f .parts)) (partOf s), ap length same, length-take-le (f .count) (f .parts) (omega (arith, is .few, is .room)));
           }
       go (refused x) h = absurd (never-refused x (said ∙ ap numbered h))
-
--- an element that is there does not depend on what stands for one that is not
-pub getD-any : {A : Type 0} (l : List A) (j : ℕ) (d e : A) → j < length l → getD l j d ≡ getD l j e
-getD-any [] j d e h = absurd (omega arith)
-getD-any (x ∷ l) zero d e h = refl
-getD-any (x ∷ l) (suc j) d e h = getD-any l j d e (omega arith)
 
 -- the part at a place, as it was handed on
 pub part-handed : (s : List ℕ) (f : PlanFile) (h : Handed s f) (j : ℕ) (d : PartRead) → j < f .count → numbersOf (getD (h .parts) j noPart) ≡ partOf s (getD (f .parts) j d)

@@ -1,0 +1,94 @@
+-- The answers of the five operations, for every list of bytes and all numbers (weighing: `weighOf` of the crate load).
+--   planOf s room      == the listing of the file s, or the refusal of the first no among 1 to 11 and 14
+--   candidatesOf s k   == the kept pairs of part k, or the first no among 1 to 9, 12 and 10 for that part alone
+--   nameOf s k         == the name of part k, or the first no among 1 to 9 and 12
+--   supplyAnswer P Q t == the supply of (P,Q) in t ticks, or 12
+--   planned a, candidateList a, nameBytes a, supplied a == such an answer as the operation hands it over: a refusal has zeros everywhere else
+--   bufferAfter a out  == the lent bytes behind a plan: the listing and, behind it, what was there; all as it was on refusal
+-- Assumes nothing.
+use Prim.Native.Nat.{ℕ}
+use mathlib.Core.Bool.{Bool, not, _&&_}
+use mathlib.Core.List.{List, [], _∷_, _++_, map}
+use lib.Dec.{leb}
+use lib.ListN.{length, drop}
+use Rattle.least.specs.Lists.{isEmpty, every, some, firstOf, nthOr}
+use Rattle.refusal.specs.declared.Outcome.the-variants.{Done, Refused}
+use Rattle.refusal.specs.declared.Refusal.the-variants.{NoBudget, NoChoice, BadHandSet, NoRoom}
+use Rattle.refusal.specs.Limits.{numberLimit}
+use Rattle.refusal.specs.Questions.{Question, ask, firstNo, Answer, whenAnswered, whenDone}
+use Rattle.refusal.specs.Questions.Answer.{answered, refused}
+use Rattle.supply.specs.Supply.{supplyOf}
+use Rattle.candidates.specs.declared.Pair.{Pair}
+use Rattle.candidates.specs.Candidates.{keptAnswer}
+use Rattle.load.specs.declared.Row.{Row}
+use Rattle.load.specs.Load.{boundsOf, passesSystem}
+use Rattle.selection.specs.Selection.{choices, leastLoaded}
+use Rattle.plan_file.specs.Above.{FilePart, noPart}
+use Rattle.plan_file.specs.Reading.{readFile}
+use Rattle.listing.specs.Listing.{listingOf}
+use Rattle.answers.specs.declared.Planned.{Planned}
+use Rattle.answers.specs.declared.CandidateList.{CandidateList}
+use Rattle.answers.specs.declared.Supplied.{Supplied}
+use Rattle.answers.specs.Parts.{keptPairs, keptRows, sharesOf}
+
+-- the rows of the plan: the first choice of least load among those built from kept pairs
+unfoldable pub planRows : List (List Row) → List Row
+planRows kept = leastLoaded (choices kept)
+
+unfoldable pub planText : List FilePart → List Row → List ℕ
+planText parts rows = listingOf (sharesOf parts rows (boundsOf rows))
+
+-- questions 10, 11 and 14
+unfoldable pub planQuestions : List (List Row) → List ℕ → ℕ → List Question
+planQuestions kept text room =
+    ask (NoBudget (firstOf isEmpty kept)) (every (λ rows. not (isEmpty rows)) kept)
+    ∷ ask NoChoice (some passesSystem (choices kept))
+    ∷ ask NoRoom (leb (length text) room)
+    ∷ []
+
+unfoldable pub planParts : List FilePart → ℕ → Answer (List ℕ)
+planParts parts room =
+    let kept = map keptRows parts in
+    let text = planText parts (planRows kept) in
+    whenDone (firstNo (planQuestions kept text room)) (answered text)
+
+unfoldable pub planOf : List ℕ → ℕ → Answer (List ℕ)
+planOf s room = whenAnswered (readFile s) (λ parts. planParts parts room)
+
+-- question 12 for a part number
+abbrev pub isPartNumber : ℕ → List FilePart → Bool
+isPartNumber k parts = leb 1 k && leb k (length parts)
+
+unfoldable pub candidatesOf : List ℕ → ℕ → Answer (List Pair)
+candidatesOf s k = whenAnswered (readFile s) (λ parts.
+    let kept = keptPairs (nthOr noPart k parts) in
+    whenDone (firstNo (ask (BadHandSet 0) (isPartNumber k parts) ∷ ask (NoBudget k) (not (isEmpty kept)) ∷ [])) (answered kept))
+
+unfoldable pub nameOf : List ℕ → ℕ → Answer (List ℕ)
+nameOf s k = whenAnswered (readFile s) (λ parts.
+    whenDone (firstNo (ask (BadHandSet 0) (isPartNumber k parts) ∷ [])) (answered (nthOr noPart k parts .name)))
+
+unfoldable pub supplyAnswer : ℕ → ℕ → ℕ → Answer ℕ
+supplyAnswer P Q t =
+    whenDone (firstNo (ask (BadHandSet 0) ((leb 1 Q && leb Q P) && (leb P numberLimit && leb t numberLimit)) ∷ []))
+    (answered (supplyOf P Q t))
+
+unfoldable pub planned : Answer (List ℕ) → Planned
+planned (answered text) = record { outcome = Done; written = length text }
+planned (refused r) = record { outcome = Refused r; written = 0 }
+
+unfoldable pub bufferAfter : Answer (List ℕ) → List ℕ → List ℕ
+bufferAfter (answered text) out = text ++ drop (length text) out
+bufferAfter (refused r) out = out
+
+unfoldable pub candidateList : Answer (List Pair) → CandidateList
+candidateList (answered kept) = record { outcome = Done; kept = keptAnswer kept }
+candidateList (refused r) = record { outcome = Refused r; kept = keptAnswer [] }
+
+unfoldable pub nameBytes : Answer (List ℕ) → List ℕ
+nameBytes (answered name) = name
+nameBytes (refused r) = []
+
+unfoldable pub supplied : Answer ℕ → Supplied
+supplied (answered ticks) = record { outcome = Done; ticks = ticks }
+supplied (refused r) = record { outcome = Refused r; ticks = 0 }

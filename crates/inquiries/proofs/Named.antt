@@ -1,0 +1,54 @@
+-- The name of a part, from what the reader hands on.
+-- Assumes nothing.
+use Prim.Native.Nat.{ℕ, zero, suc, _-_, _≤_, _<_}
+use native.Mathlib.Omega.{arith}
+use mathlib.Core.Path.{_≡_, refl, ap, _∙_}
+use mathlib.Core.Bool.{true, false, _&&_}
+use mathlib.Core.List.{List}
+use borrow.Author.Tests.{leb-true}
+use lib.Dec.{leb}
+use lib.ListN.{getD}
+use Rattle.least.specs.Lists.{nthOr}
+use Rattle.least.proofs.Lists.{nth-get, and-iff}
+use Rattle.refusal.specs.declared.Refusal.{Refusal}
+use Rattle.refusal.specs.declared.Refusal.the-variants.{BadHandSet}
+use Rattle.refusal.specs.Questions.{whenAnswered, whenDone, firstNo}
+use Rattle.refusal.specs.Questions.Answer.{answered, refused}
+use Rattle.scan.specs.Scan.{bytesOf}
+use Rattle.plan_file.specs.Above.{noPart}
+use Rattle.plan_file.specs.Reading.{readFile}
+use Rattle.reader.specs.declared.PartRead.{PartRead}
+use Rattle.reader.specs.declared.PlanFile.{PlanFile}
+use Rattle.reader.specs.Reader.{ReadPart, numbersOf, partOf}
+use Rattle.reader.proofs.Handed.{Handed, part-handed}
+use Rattle.answers.specs.Answers.{isPartNumber, nameOf}
+
+pub name-refused : (s : List ℕ) (k : ℕ) (r : Refusal) → readFile s ≡ refused r → nameOf s k ≡ refused r
+unfolding nameOf whenAnswered
+name-refused s k r e = rw e refl
+
+module _ (s : List ℕ) (k : ℕ) (f : PlanFile) (h : Handed s f) where
+  -- whether k is the number of a part, by the count that was handed on
+  pub number-is : isPartNumber k (h .parts) ≡ (leb 1 k && leb k (f .count))
+  number-is = ap (λ (n : ℕ). leb 1 k && leb k n) (h .count)
+
+  pub name-given : leb 1 k && leb k (f .count) ≡ true → nameOf s k ≡ answered (nthOr noPart k (h .parts) .name)
+  unfolding nameOf whenAnswered whenDone firstNo
+  name-given e = rw (h .reads) (simp (number-is ∙ e))
+
+  pub name-not-given : leb 1 k && leb k (f .count) ≡ false → nameOf s k ≡ refused (BadHandSet 0)
+  unfolding nameOf whenAnswered whenDone firstNo
+  name-not-given e = rw (h .reads) (simp (number-is ∙ e))
+
+name-at : (s : List ℕ) (f : PlanFile) (h : Handed s f) (j : ℕ) (d : PartRead) → j < f .count → getD (h .parts) j noPart .name ≡ bytesOf s (getD (f .parts) j d .name)
+unfolding numbersOf partOf
+name-at s f h j d l = ap (λ (p : ReadPart). p .name) (part-handed s f h j d l)
+
+pub name-is : (s : List ℕ) (k : ℕ) (f : PlanFile) (h : Handed s f) (d : PartRead) → 1 ≤ k → k ≤ f .count → nthOr noPart k (h .parts) .name ≡ bytesOf s (getD (f .parts) (k - 1) d .name)
+name-is s zero f h d l u = absurd (omega arith)
+name-is s (suc j) f h d l u =
+    let e : suc j - 1 ≡ j = omega arith in
+    rw (e, nth-get) (name-at s f h j d (omega arith))
+
+pub number-range : (k n : ℕ) → leb 1 k && leb k n ≡ true → (1 ≤ k) × (k ≤ n)
+number-range k n e = let b = and-iff (leb 1 k) (leb k n) .0 e in (leb-true 1 k (b .0), leb-true k n (b .1))

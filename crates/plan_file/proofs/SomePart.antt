@@ -1,0 +1,46 @@
+-- A file that can be read has a part.
+--   PartSeen a == an `end` line stands behind a part
+-- Assumes nothing.
+use Prim.Native.Nat.{ℕ, suc, _≤_}
+use mathlib.Core.Path.{_≡_}
+use mathlib.Core.Bool.{true, false≢true}
+use mathlib.Core.List.{List, [], _∷_}
+use lib.ListN.{length}
+use Rattle.least.proofs.Lists.{and-iff}
+use Rattle.refusal.specs.declared.Outcome.the-variants.{Done}
+use Rattle.refusal.specs.Questions.{firstNo}
+use Rattle.refusal.specs.Questions.Answer.{answered}
+use Rattle.refusal.proofs.Questions.{allYes, done-iff}
+use Rattle.text.specs.Bytes.{Line, linesOf}
+use Rattle.scan.specs.Line.{lineIsGood}
+use Rattle.records.specs.Records.{Record, recordIn}
+use Rattle.records.specs.Records.Record.{part, task, lock, end, noRecord}
+use Rattle.plan_file.specs.Above.{Above, FilePart, nothingAbove, after, partsAfter}
+use Rattle.plan_file.specs.Reading.{isEnd, notBehindEnd, notBehindPart, partAbove, allowedHere, recordQuestions, questionsAt, readFile}
+use Rattle.plan_file.proofs.Reading.{said, AllYes, yes-first, yes-rest, read-answered-iff}
+use Rattle.plan_file.proofs.SeenEntered.{not-empty}
+
+abbrev PartSeen : Above → Type 0
+PartSeen a = isEnd (a .directly) ≡ true → 1 ≤ length (a .parts)
+
+record-seen : (n : ℕ) (a : Above) (r : Record) → firstNo (recordQuestions n a r) ≡ Done → PartSeen (after a r)
+unfolding isEnd recordQuestions allowedHere partsAfter allYes
+record-seen n a (part name P) e h = absurd (false≢true h)
+record-seen n a (task name T C D) e h = absurd (false≢true h)
+record-seen n a (lock name c) e h = absurd (false≢true h)
+record-seen n a end e h =
+    let yes-here = and-iff _ _ .0 (done-iff (recordQuestions n a end) .0 e) .0 in
+    not-empty (a .parts) (and-iff (notBehindPart a) (partAbove a) .0 (and-iff (notBehindEnd a) _ .0 yes-here .1) .1)
+record-seen n a noRecord e h = absurd (false≢true h)
+
+lines-seen : (n : ℕ) (a : Above) (ls : List Line) → PartSeen a → AllYes n a ls → PartSeen (said a ls)
+unfolding said questionsAt allYes
+lines-seen n a [] seen all = seen
+lines-seen n a (l ∷ ls) seen all =
+    lines-seen (suc n) (after a (recordIn l)) ls (record-seen n a (recordIn l) (done-iff (recordQuestions n a (recordIn l)) .1 (and-iff (lineIsGood l) (allYes (recordQuestions n a (recordIn l))) .0 (yes-first n a l ls all) .1))) (yes-rest n a l ls all)
+
+pub read-some : (s : List ℕ) (ps : List FilePart) → readFile s ≡ answered ps → 1 ≤ length ps
+unfolding isEnd
+read-some s ps e =
+    let d = read-answered-iff s ps .0 e in
+    rw (d .are) at (lines-seen 1 nothingAbove (linesOf s) (λ h. absurd (false≢true h)) (d .yes) (d .ended))

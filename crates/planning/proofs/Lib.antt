@@ -1,0 +1,3 @@
+pub mod Planning
+pub mod Weighed
+pub mod Answering
