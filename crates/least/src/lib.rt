@@ -11,6 +11,7 @@ pub enum Least {
 }
 
 // A fraction; 1/0 stands for "no bound" and is above every other.
+#[repr(C)]
 pub struct Frac {
     pub num: u64,
     pub den: u64,

@@ -20,6 +20,7 @@ ghost use Rattle.load.specs.Code.{noFrac, FineRows, ColumnsAre, InRange,
 const LIMIT: u64 = 65535;
 
 // A row: a period P, a budget Q and a holding time X.
+#[repr(C)]
 pub struct Row {
     pub period: u64,
     pub budget: u64,
@@ -27,6 +28,7 @@ pub struct Row {
 }
 
 // Up to sixteen rows, lowest priority first, and their count.
+#[repr(C)]
 pub struct Rows {
     pub rows: [Row; 16],
     pub count: usize,

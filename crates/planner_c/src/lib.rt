@@ -1,8 +1,32 @@
 // The operations for callers in C and Rust. An answer has the refusal's number and place, zero on success, and its own numbers.
 use candidates::Kept;
+use least::Frac;
+use load::Rows;
 ghost use mathlib.Core.Path.{_≡_};
-ghost use Rattle.answers.specs.Answers.{candidatesOf, candidateList, supplyAnswer, supplied};
-ghost use Rattle.planner_c.specs.Exported.{candidatesExported, supplyExported};
+ghost use lib.ListN.{length};
+ghost use Rattle.load.specs.Weigh.{weighRows};
+ghost use Rattle.answers.specs.Answers.{planOf, planned, bufferAfter, candidatesOf, candidateList, supplyAnswer, supplied};
+ghost use Rattle.planner_c.specs.Exported.{planExported, candidatesExported, weighExported, supplyExported};
+
+#[repr(C)]
+pub struct PlanAnswer {
+    pub number: u64,
+    pub place: u64,
+    pub written: usize,
+}
+
+#[no_mangle]
+pub extern "C" fn planner_plan(file: &[u8], out: &mut [u8]) -> PlanAnswer
+    ensures { λ r. ⌜ (r ≡ planExported (planned (planOf (now (file .entry)) (length (now (out .entry)))))) × (now (out .exit) ≡ bufferAfter (planOf (now (file .entry)) (length (now (out .entry)))) (now (out .entry))) ⌝ }
+{
+    let a = planner::plan(file, out);
+    let o = a.outcome;
+    PlanAnswer {
+        number: refusal::number(o),
+        place: refusal::place(o),
+        written: a.written,
+    }
+}
 
 #[repr(C)]
 pub struct CandidatesAnswer {
@@ -22,6 +46,32 @@ pub extern "C" fn planner_candidates(file: &[u8], part: usize) -> CandidatesAnsw
         number: refusal::number(o),
         place: refusal::place(o),
         kept,
+    }
+}
+
+#[repr(C)]
+pub struct WeighAnswer {
+    pub number: u64,
+    pub place: u64,
+    pub bounds: [Frac; 16],
+    pub load: Frac,
+    pub row: u64,
+}
+
+#[no_mangle]
+pub extern "C" fn planner_weigh(rows: Rows) -> WeighAnswer
+    ensures { λ r. ⌜ r ≡ weighExported (weighRows rows) ⌝ }
+{
+    let a = planner::weigh(rows);
+    let o = a.outcome;
+    let bounds = a.bounds;
+    let load = a.load;
+    WeighAnswer {
+        number: refusal::number(o),
+        place: refusal::place(o),
+        bounds,
+        load,
+        row: a.row,
     }
 }
 

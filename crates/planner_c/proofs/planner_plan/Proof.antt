@@ -1,0 +1,25 @@
+-- `planner_c::planner_plan` meets its contract: the answer of `planner::plan`, with its outcome as number and place.
+-- Assumes nothing.
+use borrow.Author.Needs.{needs}
+use Rattle.planner_c.specs.Exported.{planExported}
+use Rattle.planner_c.proofs.planner_plan.Statement.{statement}
+use Rattle.planner_c.proofs.planner_plan.Tie as tie
+
+plan-requires : tie.Need-plan-requires
+plan-requires c κs = search needs
+
+number-requires : tie.Need-number-requires
+number-requires c κs = search needs
+
+place-requires : tie.Need-place-requires
+place-requires c κs = search needs
+
+same-length : tie.Need-same-length
+same-length c = search needs
+
+returns : tie.Need-returns
+unfolding planExported
+returns c = (let e = c .before .before .before .before .plan .ensures .0 in cc, c .before .before .before .before .plan .ensures .1)
+
+pub planner-plan-spec : {M : Type 1} → statement M
+planner-plan-spec = tie.close (tie.spec plan-requires number-requires place-requires same-length returns)
