@@ -1,7 +1,15 @@
 //! The planner's own library, called through its C interface (crates/planner_c).
 
 use crate::local::Pair;
+use crate::system::{Bound, Row, Weighing};
 use crate::Refusal;
+
+#[repr(C)]
+struct PlanAnswer {
+    number: u64,
+    place: u64,
+    written: usize,
+}
 
 #[repr(C)]
 #[derive(Clone, Copy)]
@@ -19,6 +27,36 @@ struct CandidatesAnswer {
 }
 
 #[repr(C)]
+#[derive(Clone, Copy)]
+struct CRow {
+    period: u64,
+    budget: u64,
+    holding: u64,
+}
+
+#[repr(C)]
+struct CRows {
+    rows: [CRow; 16],
+    count: usize,
+}
+
+#[repr(C)]
+#[derive(Clone, Copy)]
+struct CFrac {
+    num: u64,
+    den: u64,
+}
+
+#[repr(C)]
+struct WeighAnswer {
+    number: u64,
+    place: u64,
+    bounds: [CFrac; 16],
+    load: CFrac,
+    row: u64,
+}
+
+#[repr(C)]
 struct SupplyAnswer {
     number: u64,
     place: u64,
@@ -26,6 +64,8 @@ struct SupplyAnswer {
 }
 
 extern "C" {
+    fn planner_plan(file: *const u8, length: usize, out: *mut u8, room: usize) -> PlanAnswer;
+    fn planner_weigh(rows: CRows) -> WeighAnswer;
     fn planner_candidates(file: *const u8, length: usize, part: usize) -> CandidatesAnswer;
     fn planner_supply(period: u64, budget: u64, time: u64) -> SupplyAnswer;
 }
@@ -36,6 +76,56 @@ fn refusal(number: u64, place: u64) -> Option<Refusal> {
         number: number as u32,
         place: place as usize,
     })
+}
+
+/// The plan of the file: its listing stands in the first bytes of `out`, as many as are counted.
+pub fn plan(file: &[u8], out: &mut [u8]) -> Result<usize, Refusal> {
+    // SAFETY: the pointers and the lengths are those of the slices; the call writes only to `out`.
+    let answer = unsafe { planner_plan(file.as_ptr(), file.len(), out.as_mut_ptr(), out.len()) };
+    if let Some(refusal) = refusal(answer.number, answer.place) {
+        assert_eq!(answer.written, 0);
+        return Err(refusal);
+    }
+    assert_eq!(answer.place, 0);
+    Ok(answer.written)
+}
+
+/// Weighs rows set by hand; behind the sixteenth only their count is handed over.
+pub fn weigh(rows: &[Row]) -> Result<Weighing, Refusal> {
+    let row_at = |place: usize| {
+        rows.get(place)
+            .map_or((0, 0, 0), |row| (row.period, row.budget, row.holding))
+    };
+    let by_value = CRows {
+        rows: std::array::from_fn(|place| {
+            let (period, budget, holding) = row_at(place);
+            CRow {
+                period,
+                budget,
+                holding,
+            }
+        }),
+        count: rows.len(),
+    };
+    // SAFETY: numbers in, numbers out.
+    let answer = unsafe { planner_weigh(by_value) };
+    let bound = |of: &CFrac| Bound {
+        demand: of.num,
+        time: of.den,
+    };
+    let none = |of: &CFrac| of.num == 0 && of.den == 0;
+    if let Some(refusal) = refusal(answer.number, answer.place) {
+        assert!(answer.bounds.iter().all(none) && none(&answer.load) && answer.row == 0);
+        return Err(refusal);
+    }
+    let (bounds, rest) = answer.bounds.split_at(rows.len());
+    assert!(rest.iter().all(none) && answer.place == 0);
+    let weighing = Weighing {
+        bounds: bounds.iter().map(bound).collect(),
+        row: answer.row as usize - 1,
+    };
+    assert_eq!(bound(&answer.load), weighing.load());
+    Ok(weighing)
 }
 
 /// The kept list of one part of the file, parts counted from 1. A refusal has no pairs, and places

@@ -4,7 +4,8 @@ use std::fs;
 use std::path::Path;
 
 use reference::random::{self, Random, Sizes};
-use reference::{candidates, library, supply_answer};
+use reference::system::Row;
+use reference::{candidates, library, plan, supply_answer, weigh, Refusal, PROGRAM_ROOM};
 
 /// Every part number of a file of up to 16 parts, and some that no part has.
 fn part_numbers(random: &mut Random) -> impl Iterator<Item = usize> {
@@ -23,11 +24,39 @@ fn same_candidates(random: &mut Random, file: &[u8]) {
     }
 }
 
-#[test]
-fn candidates_of_the_cases_and_the_bench_files() {
-    let random = &mut Random::new(1);
+/// What a lent byte holds before a call.
+fn pattern(place: usize) -> u8 {
+    (place * 7 + 3) as u8
+}
+
+/// The plan in a buffer of that many bytes: on success the listing stands in front, and every
+/// other byte is as it was.
+fn same_plan(file: &[u8], room: usize) -> Result<usize, Refusal> {
+    let mut out: Vec<u8> = (0..room).map(pattern).collect();
+    let answer = library::plan(file, &mut out);
+    let listing = plan(file, room);
+    let text = String::from_utf8_lossy(file);
+    let written = listing.as_ref().map(Vec::len).map_err(|refusal| *refusal);
+    assert_eq!(answer, written, "{room} bytes for\n{text}");
+    let mut expected = listing.unwrap_or_default();
+    expected.extend((expected.len()..room).map(pattern));
+    assert!(out == expected, "{room} bytes for\n{text}");
+    answer
+}
+
+/// The plan in every room up to two bytes more than its listing has.
+fn same_in_every_room(file: &[u8]) {
+    if let Ok(length) = same_plan(file, PROGRAM_ROOM) {
+        for room in 0..length + 3 {
+            assert_eq!(same_plan(file, room).is_ok(), length <= room);
+        }
+    }
+}
+
+/// The plan files of the package.
+fn files() -> Vec<Vec<u8>> {
     let top = Path::new(env!("CARGO_MANIFEST_DIR"));
-    let mut files = 0;
+    let mut files = Vec::new();
     for folder in ["cases/small", "cases/full", "bench"] {
         for entry in fs::read_dir(top.join(folder)).expect("the folder") {
             let path = entry.expect("an entry").path();
@@ -35,28 +64,99 @@ fn candidates_of_the_cases_and_the_bench_files() {
                 .extension()
                 .is_some_and(|extension| extension == "plan")
             {
-                same_candidates(random, &fs::read(path).expect("a plan file"));
-                files += 1;
+                files.push(fs::read(path).expect("a plan file"));
             }
         }
     }
-    assert!(files > 100, "{files} files");
+    assert!(files.len() > 100, "{} files", files.len());
+    files
 }
 
-#[test]
-fn candidates_of_made_up_files() {
-    let random = &mut Random::new(2);
+/// Made-up files, each whole and damaged.
+fn made_up(random: &mut Random, rounds: usize) -> Vec<Vec<u8>> {
     let sizes = [
         Sizes::one_part(),
         Sizes::two_parts(),
         Sizes::three_parts(),
         Sizes::full(),
     ];
-    for round in 0..400 {
+    let mut files = Vec::new();
+    for round in 0..rounds {
         let file = random::valid(random, &sizes[round % sizes.len()]);
+        files.push(random::damaged(random, &file));
+        files.push(file);
+    }
+    files
+}
+
+#[test]
+fn plans_of_the_cases_and_the_bench_files() {
+    for file in files() {
+        let _ = same_plan(&file, PROGRAM_ROOM);
+    }
+}
+
+#[test]
+fn plans_of_made_up_files() {
+    let random = &mut Random::new(4);
+    let files = made_up(random, 2000);
+    let planned = files
+        .iter()
+        .filter(|file| same_plan(file, PROGRAM_ROOM).is_ok());
+    assert!(planned.count() > 300);
+}
+
+#[test]
+fn plans_in_every_room() {
+    let random = &mut Random::new(5);
+    for file in files().iter().step_by(8).chain(&made_up(random, 40)) {
+        same_in_every_room(file);
+    }
+}
+
+#[test]
+fn candidates_of_the_cases_and_the_bench_files() {
+    let random = &mut Random::new(1);
+    for file in files() {
         same_candidates(random, &file);
-        let file = random::damaged(random, &file);
+    }
+}
+
+#[test]
+fn candidates_of_made_up_files() {
+    let random = &mut Random::new(2);
+    for file in made_up(random, 400) {
         same_candidates(random, &file);
+    }
+}
+
+#[test]
+fn rows_set_by_hand() {
+    let random = &mut Random::new(6);
+    let edges = [0, 1, 2, 65_534, 65_535, 65_536, 1 << 32, u64::MAX];
+    for _ in 0..20_000 {
+        let longest = [20, 1000, 65_535][random.index(3)];
+        let mut rows: Vec<Row> = random::rows(random, 16, longest)
+            .into_iter()
+            .map(|(period, budget, holding)| Row {
+                period,
+                budget,
+                holding,
+            })
+            .collect();
+        if random.once_in(4) && !rows.is_empty() {
+            let place = random.index(rows.len());
+            let edge = edges[random.index(edges.len())];
+            match random.index(3) {
+                0 => rows[place].period = edge,
+                1 => rows[place].budget = edge,
+                _ => rows[place].holding = edge,
+            }
+        }
+        if random.once_in(50) {
+            rows.resize(random.index(40), rows[0]);
+        }
+        assert_eq!(library::weigh(&rows), weigh(&rows), "{rows:?}");
     }
 }
 
