@@ -10,7 +10,7 @@ use Rattle.least.specs.declared.Frac.{Frac}
 use Rattle.text.specs.Bytes.{bytes, lineOf}
 use Rattle.text.specs.Decimal.{digitsOf}
 use Rattle.load.specs.declared.Row.{Row}
-use Rattle.listing.specs.Listing.{ceilingLine, shareLine, loadLine}
+use Rattle.listing.specs.Listing.{ceilingLine, shareLine, loadLine, refusedLine}
 use Rattle.listing.specs.Shares.{headOf, named, bare}
 
 -- a field with the byte behind it
@@ -30,12 +30,16 @@ unfolding headOf
 line-head w n f fs =
     line-first w n (f ∷ fs) ∙ ap (λ (l : List ℕ). closed w 9 ++ l) (line-first n f fs) ∙ sym (append-assoc (closed w 9) (closed n 9) (lineOf (f ∷ fs)))
 
--- the two numbers of a bound, at the end of a line
-abbrev pub boundEnd : Frac → List ℕ
-boundEnd b = lineOf (digitsOf (b .num) ∷ digitsOf (b .den) ∷ [])
+-- two numbers at the end of a line
+abbrev pub lastTwo : ℕ → ℕ → List ℕ
+lastTwo a b = lineOf (digitsOf a ∷ digitsOf b ∷ [])
 
-pub bound-pieces : (b : Frac) → boundEnd b ≡ closed (digitsOf (b .num)) 9 ++ closed (digitsOf (b .den)) 10
-bound-pieces b = line-first (digitsOf (b .num)) (digitsOf (b .den)) [] ∙ ap (λ (l : List ℕ). closed (digitsOf (b .num)) 9 ++ l) (line-last (digitsOf (b .den)))
+pub two-pieces : (a b : ℕ) → lastTwo a b ≡ closed (digitsOf a) 9 ++ closed (digitsOf b) 10
+two-pieces a b = line-first (digitsOf a) (digitsOf b) [] ∙ ap (λ (l : List ℕ). closed (digitsOf a) 9 ++ l) (line-last (digitsOf b))
+
+-- those of a bound
+abbrev pub boundEnd : Frac → List ℕ
+boundEnd b = lastTwo (b .num) (b .den)
 
 pub load-pieces : (n : List ℕ) (b : Frac) → loadLine (named n b) ≡ headOf (bytes "load") n ++ boundEnd b
 unfolding loadLine named bare
@@ -67,6 +71,10 @@ unfolding ceilingLine
 ceiling-pieces n k =
     line-head (bytes "ceiling") n (digitsOf k) [] ∙ ap (λ (l : List ℕ). headOf (bytes "ceiling") n ++ l) (line-last (digitsOf k))
 
+pub refused-pieces : (n k : ℕ) → refusedLine n k ≡ closed (bytes "refused") 9 ++ lastTwo n k
+unfolding refusedLine
+refused-pieces n k = line-first (bytes "refused") (digitsOf n) (digitsOf k ∷ [])
+
 -- lengths
 closed-length : (f : List ℕ) (end : ℕ) → length (closed f end) ≡ length f + 1
 closed-length f end = length-append f (end ∷ [])
@@ -75,10 +83,13 @@ head-length : (w n : List ℕ) → length (headOf w n) ≡ length w + length n +
 unfolding headOf
 head-length w n = length-append (closed w 9) (closed n 9) ∙ omega (arith, closed-length w 9, closed-length n 9)
 
+two-length : (a b : ℕ) → length (lastTwo a b) ≡ length (digitsOf a) + length (digitsOf b) + 2
+two-length a b =
+    ap length (two-pieces a b) ∙ length-append (closed (digitsOf a) 9) (closed (digitsOf b) 10)
+    ∙ omega (arith, closed-length (digitsOf a) 9, closed-length (digitsOf b) 10)
+
 pub bound-length : (b : Frac) → length (boundEnd b) ≡ length (digitsOf (b .num)) + length (digitsOf (b .den)) + 2
-bound-length b =
-    ap length (bound-pieces b) ∙ length-append (closed (digitsOf (b .num)) 9) (closed (digitsOf (b .den)) 10)
-    ∙ omega (arith, closed-length (digitsOf (b .num)) 9, closed-length (digitsOf (b .den)) 10)
+bound-length b = two-length (b .num) (b .den)
 
 row-length : (r : Row) (b : Frac)
     → length (rowEnd r b) ≡ length (digitsOf (r .period)) + length (digitsOf (r .budget)) + length (digitsOf (r .holding)) + 3 + length (boundEnd b)
@@ -101,6 +112,10 @@ ceiling-word : length (bytes "ceiling") ≡ 7
 unfolding bytes
 ceiling-word = refl
 
+refused-word : length (bytes "refused") ≡ 7
+unfolding bytes
+refused-word = refl
+
 pub load-length : (n : List ℕ) (b : Frac) → length (loadLine (named n b)) ≡ 6 + length n + length (boundEnd b)
 load-length n b =
     ap length (load-pieces n b) ∙ length-append (headOf (bytes "load") n) (boundEnd b) ∙ omega (arith, head-length (bytes "load") n, load-word)
@@ -115,3 +130,8 @@ pub ceiling-length : (n : List ℕ) (k : ℕ) → length (ceilingLine (record { 
 ceiling-length n k =
     ap length (ceiling-pieces n k) ∙ length-append (headOf (bytes "ceiling") n) (closed (digitsOf k) 10)
     ∙ omega (arith, head-length (bytes "ceiling") n, ceiling-word, closed-length (digitsOf k) 10)
+
+pub refused-length : (n k : ℕ) → length (refusedLine n k) ≡ 10 + length (digitsOf n) + length (digitsOf k)
+refused-length n k =
+    ap length (refused-pieces n k) ∙ length-append (closed (bytes "refused") 9) (lastTwo n k)
+    ∙ omega (arith, closed-length (bytes "refused") 9, refused-word, two-length n k)

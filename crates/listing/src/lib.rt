@@ -12,7 +12,7 @@ ghost use Rattle.text.specs.Decimal.{digitsOf};
 ghost use Rattle.scan.specs.Scan.{bytesOf};
 ghost use Rattle.plan_file.specs.Entries.{namesOf};
 ghost use Rattle.writer.specs.Written.{Written};
-ghost use Rattle.listing.specs.Listing.{ceilingLine, shareLine, shareLines, loadLine};
+ghost use Rattle.listing.specs.Listing.{ceilingLine, shareLine, shareLines, loadLine, refusedLine};
 ghost use Rattle.listing.specs.Shares.{headOf, named, bare, ceilingsOf, ceilingLines, shareFrom, FineLocks};
 
 const TAB: u8 = 9;
@@ -28,13 +28,13 @@ fn write_head(out: &mut [u8], at: usize, word: &[u8], name: &[u8]) -> usize
     writer::write_word_field(out, next, name, TAB)
 }
 
-// The two numbers of a bound, at the end of a line.
-fn write_bound(out: &mut [u8], at: usize, bound: Frac) -> usize
-    requires { ⌜ at + length (lineOf (digitsOf (bound .num) ∷ digitsOf (bound .den) ∷ [])) ≤ length (now out) ⌝ }
-    ensures { λ r. ⌜ Written at (lineOf (digitsOf (bound .num) ∷ digitsOf (bound .den) ∷ [])) (now (out .entry)) (now (out .exit)) r ⌝ }
+// Two numbers at the end of a line.
+fn write_last_two(out: &mut [u8], at: usize, first: u64, second: u64) -> usize
+    requires { ⌜ at + length (lineOf (digitsOf first ∷ digitsOf second ∷ [])) ≤ length (now out) ⌝ }
+    ensures { λ r. ⌜ Written at (lineOf (digitsOf first ∷ digitsOf second ∷ [])) (now (out .entry)) (now (out .exit)) r ⌝ }
 {
-    let next = writer::write_number_field(out, at, bound.num, TAB);
-    writer::write_number_field(out, next, bound.den, NEWLINE)
+    let next = writer::write_number_field(out, at, first, TAB);
+    writer::write_number_field(out, next, second, NEWLINE)
 }
 
 // `load` NAME L t, of the part with this name and bound.
@@ -43,7 +43,7 @@ pub fn write_load(file: &[u8], name: Span, bound: Frac, out: &mut [u8], at: usiz
     ensures { λ r. ⌜ Written at (loadLine (named (bytesOf (now (file .entry)) name) bound)) (now (out .entry)) (now (out .exit)) r ⌝ }
 {
     let next = write_head(out, at, b"load", scan::bytes(file, name));
-    write_bound(out, next, bound)
+    write_last_two(out, next, bound.num, bound.den)
 }
 
 // `share` NAME P Q X L t.
@@ -55,7 +55,7 @@ fn write_share_line(out: &mut [u8], at: usize, name: &[u8], row: Row, bound: Fra
     let behind_period = writer::write_number_field(out, behind_name, row.period, TAB);
     let behind_budget = writer::write_number_field(out, behind_period, row.budget, TAB);
     let behind_holding = writer::write_number_field(out, behind_budget, row.holding, TAB);
-    write_bound(out, behind_holding, bound)
+    write_last_two(out, behind_holding, bound.num, bound.den)
 }
 
 // `ceiling` LOCK NUMBER.
@@ -109,6 +109,15 @@ pub fn write_share(
 {
     let next = write_share_line(out, at, scan::bytes(file, name), row, bound);
     write_ceilings(file, locks, ceilings, out, next)
+}
+
+// `refused` NUMBER PLACE.
+pub fn write_refusal(number: u64, place: u64, out: &mut [u8], at: usize) -> usize
+    requires { ⌜ at + length (refusedLine number place) ≤ length (now out) ⌝ }
+    ensures { λ r. ⌜ Written at (refusedLine number place) (now (out .entry)) (now (out .exit)) r ⌝ }
+{
+    let next = writer::write_word_field(out, at, b"refused", TAB);
+    write_last_two(out, next, number, place)
 }
 
 // How long the two numbers of a bound are at the end of a line.

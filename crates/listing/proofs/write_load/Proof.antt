@@ -44,8 +44,8 @@ write-head-requires c κs =
     let s = c .before .before .before .before .before in
     left-room (headOf (bytes "load") (c .bytes .result .now)) (boundEnd (s .args .bound)) (start c)
 
-write-bound-requires : tie.Need-write-bound-requires
-write-bound-requires c κs = behind-head (c .before .before .before) .room
+write-last-two-requires : tie.Need-write-last-two-requires
+write-last-two-requires c κs = behind-head (c .before .before .before) .room
 
 same-length : tie.Need-same-length
 same-length c = search needs
@@ -53,7 +53,7 @@ same-length c = search needs
 returns : tie.Need-returns
 returns c =
     let w = c .before .before in
-    left-last (behind-head (w .before .before .before .before)) (w .write-bound .ensures)
+    left-last (behind-head (w .before .before .before .before)) (w .write-last-two .ensures)
 
 pub write-load-spec : {M : Type 1} → statement M
 write-load-spec =
@@ -62,6 +62,6 @@ write-load-spec =
     slice-aggregate-write-head
     bytes-requires
     write-head-requires
-    write-bound-requires
+    write-last-two-requires
     same-length
     returns)

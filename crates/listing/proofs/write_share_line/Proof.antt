@@ -73,8 +73,8 @@ write-number-field-requires-3 c κs =
     let s = c .before .before .before .before .before .before .before .before .before .before .before .before .before .before .before .before in
     left-room (closed (digitsOf (s .args .row .holding)) 9) (boundEnd (s .args .bound)) (behind-budget (c .before .before .before))
 
-write-bound-requires : tie.Need-write-bound-requires
-write-bound-requires c κs = behind-holding (c .before .before .before) .room
+write-last-two-requires : tie.Need-write-last-two-requires
+write-last-two-requires c κs = behind-holding (c .before .before .before) .room
 
 same-length : tie.Need-same-length
 same-length c = search needs
@@ -82,7 +82,7 @@ same-length c = search needs
 returns : tie.Need-returns
 returns c =
     let w = c .before .before in
-    left-last (behind-holding (w .before .before .before .before)) (w .write-bound .ensures)
+    left-last (behind-holding (w .before .before .before .before)) (w .write-last-two .ensures)
 
 pub write-share-line-spec : {M : Type 1} → statement M
 write-share-line-spec =
@@ -93,6 +93,6 @@ write-share-line-spec =
     write-number-field-requires
     write-number-field-requires-2
     write-number-field-requires-3
-    write-bound-requires
+    write-last-two-requires
     same-length
     returns)
