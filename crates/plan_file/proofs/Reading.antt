@@ -20,6 +20,7 @@ use Rattle.refusal.specs.declared.Outcome.the-variants.{Done, Refused}
 use Rattle.refusal.specs.Limits.{fileLimit}
 use Rattle.refusal.specs.Questions.{firstNo, Answer, whenDone}
 use Rattle.refusal.specs.Questions.Answer.{answered, refused}
+use Rattle.refusal.proofs.Answers.{answered-not-refused, answered-same, refused-same}
 use Rattle.refusal.proofs.Questions.{allYes, FirstNo, refused-iff, done-iff}
 use Rattle.records.specs.Records.{recordIn}
 use Rattle.plan_file.specs.Above.{FilePart, Above, nothingAbove, after}
@@ -168,25 +169,16 @@ file-known s = go (leb (length s) fileLimit) refl
     go true e = lines-known s (leb-true (length s) fileLimit e) (passed 1 nothingAbove (linesOf s))
     go false e = inl (FileTooLong, too-long (leb-false (length s) fileLimit e) refl)
 
-same-refused : {r t : Refusal} → _≡_ {A = Answer (List FilePart)} (refused r) (refused t) → r ≡ t
-same-refused e = cc
-
-same-answered : {ps qs : List FilePart} → _≡_ {A = Answer (List FilePart)} (answered ps) (answered qs) → ps ≡ qs
-same-answered e = cc
-
-not-both : {r : Refusal} {ps : List FilePart} → _≡_ {A = Answer (List FilePart)} (refused r) (answered ps) → ⊥
-not-both e = let z : _≡_ {A = ℕ} 0 1 = cc in omega arith
-
 pub read-refused-iff : (s : List ℕ) (r : Refusal) → (readFile s ≡ refused r) ↔ RefusedAt s r
 read-refused-iff s r = (λ e. go e (file-known s), refused-so s r)
   where
     go : readFile s ≡ refused r → Known s → RefusedAt s r
-    go e (inl d) = subst (RefusedAt s) (same-refused (sym (refused-so s (d .0) (d .1)) ∙ e)) (d .1)
-    go e (inr d) = absurd (not-both (sym e ∙ answered-so s (d .0) (d .1)))
+    go e (inl d) = subst (RefusedAt s) (refused-same (sym (refused-so s (d .0) (d .1)) ∙ e)) (d .1)
+    go e (inr d) = absurd (answered-not-refused (sym (answered-so s (d .0) (d .1)) ∙ e))
 
 pub read-answered-iff : (s : List ℕ) (ps : List FilePart) → (readFile s ≡ answered ps) ↔ AnsweredBy s ps
 read-answered-iff s ps = (λ e. go e (file-known s), answered-so s ps)
   where
     go : readFile s ≡ answered ps → Known s → AnsweredBy s ps
-    go e (inl d) = absurd (not-both (sym (refused-so s (d .0) (d .1)) ∙ e))
-    go e (inr d) = subst (AnsweredBy s) (same-answered (sym (answered-so s (d .0) (d .1)) ∙ e)) (d .1)
+    go e (inl d) = absurd (answered-not-refused (sym e ∙ refused-so s (d .0) (d .1)))
+    go e (inr d) = subst (AnsweredBy s) (answered-same (sym (answered-so s (d .0) (d .1)) ∙ e)) (d .1)

@@ -16,6 +16,7 @@ use Rattle.refusal.specs.declared.Refusal.{Refusal}
 use Rattle.refusal.specs.declared.Refusal.the-variants.{NoBudget, NoChoice, NoRoom}
 use Rattle.refusal.specs.Questions.{Answer}
 use Rattle.refusal.specs.Questions.Answer.{answered, refused}
+use Rattle.refusal.proofs.Answers.{answered-not-refused}
 use Rattle.load.specs.declared.Row.{Row}
 use Rattle.load.specs.Load.{row}
 use Rattle.plan_file.specs.Above.{FilePart, noPart}
@@ -56,18 +57,15 @@ none-refused : {ps : List FilePart} {r : Refusal} (a : Answer (List ℕ)) → No
 none-refused a (ten {j} n) e = inl (j, e)
 none-refused a (eleven each never) e = inr e
 
-not-both : (text : List ℕ) (r : Refusal) → answered text ≡ refused r → ⊥
-not-both text r e = let z : _≡_ {A = ℕ} 0 1 = cc in omega arith
-
 fits-or-14 : (text : List ℕ) (b : Bool) → RefusedToPlan (cond b (answered text) (refused NoRoom)) → ⊥
-fits-or-14 text true (inl h) = not-both text (NoBudget (h .0)) (h .1)
-fits-or-14 text true (inr e) = not-both text NoChoice e
+fits-or-14 text true (inl h) = answered-not-refused (h .1)
+fits-or-14 text true (inr e) = answered-not-refused e
 fits-or-14 text false (inl h) = let z : _≡_ {A = ℕ} 0 1 = cc (h .1) in omega arith
 fits-or-14 text false (inr e) = let z : _≡_ {A = ℕ} 0 1 = cc in omega arith
 
 answered-fits : (text : List ℕ) (b : Bool) → (cond b (answered text) (refused NoRoom) ≡ answered text) ↔ (b ≡ true)
 answered-fits text true = ((λ e. refl), λ e. refl)
-answered-fits text false = ((λ e. absurd (not-both text NoRoom (sym e))), λ e. absurd (false≢true e))
+answered-fits text false = ((λ e. absurd (answered-not-refused (sym e))), λ e. absurd (false≢true e))
 
 module _ (plan : List ℕ → ℕ → Answer (List ℕ)) (met : Demand3 plan) (s : List ℕ) (ps : List FilePart) (readable : readFile s ≡ answered ps) where
   pub refused-iff-none-passes : (room : ℕ) → RefusedToPlan (plan s room) ↔ ((rs : List Row) → PassingChoice ps rs → ⊥)

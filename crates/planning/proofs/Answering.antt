@@ -23,6 +23,7 @@ use Rattle.refusal.specs.declared.Outcome.the-variants.{Done, Refused}
 use Rattle.refusal.specs.Limits.{rowLimit}
 use Rattle.refusal.specs.Questions.{Question, Answer, firstNo, whenAnswered, whenDone}
 use Rattle.refusal.specs.Questions.Answer.{answered, refused}
+use Rattle.refusal.proofs.Answers.{done-not-refused}
 use Rattle.refusal.proofs.Questions.{allYes, done-iff, yes-next, no-answers}
 use Rattle.load.specs.declared.Row.{Row}
 use Rattle.load.specs.declared.Rows.{Rows}
@@ -69,9 +70,6 @@ none-no : firstNo [] ≡ Done
 unfolding firstNo
 none-no = refl
 
-never-refused : {r : Refusal} → Done ≡ Refused r → ⊥
-never-refused e = let n : _≡_ {A = ℕ} 0 1 = cc in omega arith
-
 -- one question more
 refused-first : (x y z : Question) (r : Refusal) → firstNo (x ∷ y ∷ []) ≡ Refused r → firstNo (x ∷ y ∷ z ∷ []) ≡ Refused r
 refused-first x y z r e = go (x .yes) refl (y .yes) refl
@@ -79,7 +77,7 @@ refused-first x y z r e = go (x .yes) refl (y .yes) refl
     go : (a : Bool) → x .yes ≡ a → (b : Bool) → y .yes ≡ b → firstNo (x ∷ y ∷ z ∷ []) ≡ Refused r
     go false p b q = no-answers x (y ∷ z ∷ []) p ∙ sym (no-answers x (y ∷ []) p) ∙ e
     go true p false q = yes-next x (y ∷ z ∷ []) p ∙ no-answers y (z ∷ []) q ∙ sym (yes-next x (y ∷ []) p ∙ no-answers y [] q) ∙ e
-    go true p true q = absurd (never-refused (sym (yes-next x (y ∷ []) p ∙ yes-next y [] q ∙ none-no) ∙ e))
+    go true p true q = absurd (done-not-refused (sym (yes-next x (y ∷ []) p ∙ yes-next y [] q ∙ none-no) ∙ e))
 
 module _ (s : List ℕ) (f : PlanFile) (is : ReadIs s f) (h : Handed s f) (p : PlanRows) (p-is : p ≡ planRowsOf f) where
   questions-are : firstNo (choiceQuestions (rowsIn f)) ≡ p .outcome

@@ -12,6 +12,7 @@ use Rattle.refusal.specs.declared.Outcome.{Outcome}
 use Rattle.refusal.specs.declared.Outcome.the-variants.{Done, Refused}
 use Rattle.refusal.specs.Questions.{Answer}
 use Rattle.refusal.specs.Questions.Answer.{answered, refused}
+use Rattle.refusal.proofs.Answers.{answered-not-refused, answered-same, refused-same}
 use Rattle.plan_file.specs.Above.{FilePart, noPart}
 use Rattle.plan_file.specs.Reading.{readFile}
 use Rattle.reader.specs.declared.PartRead.{PartRead}
@@ -25,15 +26,6 @@ pub record Handed (s : List ℕ) (f : PlanFile) : Type 0 where
   pub same : map (partOf s) (take (f .count) (f .parts)) ≡ map numbersOf parts
   pub count : length parts ≡ f .count
 
-answered-same : {A : Type 0} {x y : A} → answered x ≡ answered y → x ≡ y
-answered-same e = cc
-
-never-refused : {A : Type 0} {x : A} (r : Refusal) → answered x ≡ refused r → ⊥
-never-refused {A} {x} r e = let z : _≡_ {A = ℕ} 0 1 = cc in omega arith
-
-refused-same : {A : Type 0} (r x : Refusal) → _≡_ {A = Answer A} (refused r) (refused x) → r ≡ x
-refused-same r x e = cc
-
 module _ (s : List ℕ) (f : PlanFile) (is : ReadIs s f) where
   pub handed-refused : (r : Refusal) → f .outcome ≡ Refused r → readFile s ≡ refused r
   unfolding fileOf answerOf numbered
@@ -43,8 +35,8 @@ module _ (s : List ℕ) (f : PlanFile) (is : ReadIs s f) where
       said = sym (ap (λ (o : Outcome). answerOf o (map (partOf s) (take (f .count) (f .parts)))) e) ∙ is .value
 
       go : (a : Answer (List FilePart)) → readFile s ≡ a → readFile s ≡ refused r
-      go (answered ps) h = absurd (never-refused r (sym (said ∙ ap numbered h)))
-      go (refused x) h = h ∙ ap refused (sym (refused-same r x (said ∙ ap numbered h)))
+      go (answered ps) h = absurd (answered-not-refused (sym (said ∙ ap numbered h)))
+      go (refused x) h = h ∙ ap refused (sym (refused-same (said ∙ ap numbered h)))
 
   pub handed-done : f .outcome ≡ Done → Handed s f
   unfolding fileOf answerOf numbered
@@ -62,7 +54,7 @@ module _ (s : List ℕ) (f : PlanFile) (is : ReadIs s f) where
             same = same;
             count = omega (arith, length-map ps numbersOf, length-map (take (f .count) (f .parts)) (partOf s), ap length same, length-take-le (f .count) (f .parts) (omega (arith, is .few, is .room)));
           }
-      go (refused x) h = absurd (never-refused x (said ∙ ap numbered h))
+      go (refused x) h = absurd (answered-not-refused (said ∙ ap numbered h))
 
 -- the part at a place, as it was handed on
 pub part-handed : (s : List ℕ) (f : PlanFile) (h : Handed s f) (j : ℕ) (d : PartRead) → j < f .count → numbersOf (getD (h .parts) j noPart) ≡ partOf s (getD (f .parts) j d)

@@ -5,11 +5,10 @@ use mathlib.Core.Path.{_≡_, refl, sym, ap, _∙_}
 use mathlib.Core.Bool.{Bool, true, false, _&&_, false≢true}
 use mathlib.Core.Logic.{_↔_}
 use mathlib.Core.List.{List, [], _∷_, _++_}
-use Prim.Native.Nat.{ℕ}
-use native.Mathlib.Omega.{arith}
 use Rattle.refusal.specs.declared.Refusal.{Refusal}
 use Rattle.refusal.specs.declared.Outcome.the-variants.{Done, Refused}
 use Rattle.refusal.specs.Questions.{Question, ask, firstNo}
+use Rattle.refusal.proofs.Answers.{done-not-refused, same-refusal}
 
 -- every answer is yes
 unfoldable pub allYes : List Question → Bool
@@ -33,15 +32,9 @@ done-none : Done ≡ firstNo []
 unfolding firstNo
 done-none = refl
 
-same-refusal : {r s : Refusal} → Refused r ≡ Refused s → r ≡ s
-same-refusal e = cc
-
-never-done : (r : Refusal) → Done ≡ Refused r → ⊥
-never-done r e = let z : _≡_ {A = ℕ} 0 1 = cc in omega arith
-
 pub no-first : (qs : List Question) (r : Refusal) → firstNo qs ≡ Refused r → FirstNo qs r
 unfolding allYes
-no-first [] r e = absurd (never-done r (done-none ∙ e))
+no-first [] r e = absurd (done-not-refused (done-none ∙ e))
 no-first (q ∷ qs) r e = go (q .yes) refl (no-first qs r)
   where
     go : (t : Bool) → q .yes ≡ t → (firstNo qs ≡ Refused r → FirstNo qs r) → FirstNo (q ∷ qs) r
@@ -79,7 +72,7 @@ done-all (q ∷ qs) h = go (q .yes) refl (done-all qs)
   where
     go : (t : Bool) → q .yes ≡ t → (firstNo qs ≡ Done → allYes qs ≡ true) → q .yes && allYes qs ≡ true
     go true p ih = simp p (ih (sym (yes-next q qs p) ∙ h))
-    go false p ih = absurd (never-done (q .refusal) (sym h ∙ no-answers q qs p))
+    go false p ih = absurd (done-not-refused (sym h ∙ no-answers q qs p))
 
 pub done-iff : (qs : List Question) → (firstNo qs ≡ Done) ↔ (allYes qs ≡ true)
 done-iff qs = (done-all qs, all-done qs)

@@ -1,0 +1,25 @@
+-- An answer is a value or a refusal, and an outcome is done or a refusal: never both, and each tells what it holds.
+-- Assumes nothing.
+use Prim.Native.Nat.{ℕ}
+use native.Mathlib.Omega.{arith}
+use mathlib.Core.Path.{_≡_}
+use Rattle.refusal.specs.declared.Refusal.{Refusal}
+use Rattle.refusal.specs.declared.Outcome.the-variants.{Done, Refused}
+use Rattle.refusal.specs.Questions.{Answer}
+use Rattle.refusal.specs.Questions.Answer.{answered, refused}
+
+pub done-not-refused : {r : Refusal} → Done ≡ Refused r → ⊥
+done-not-refused e = let z : _≡_ {A = ℕ} 0 1 = cc in omega arith
+
+pub same-refusal : {r s : Refusal} → Refused r ≡ Refused s → r ≡ s
+same-refusal e = cc
+
+module _ {A : Type 0} where
+  pub answered-not-refused : {a : A} {r : Refusal} → answered a ≡ refused r → ⊥
+  answered-not-refused e = let z : _≡_ {A = ℕ} 0 1 = cc in omega arith
+
+  pub answered-same : {a b : A} → answered a ≡ answered b → a ≡ b
+  answered-same e = cc
+
+  pub refused-same : {r s : Refusal} → _≡_ {A = Answer A} (refused r) (refused s) → r ≡ s
+  refused-same e = cc
