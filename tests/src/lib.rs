@@ -8,12 +8,14 @@
 //! - [`literal`]: all of it again by brute force, for small files
 //! - [`random`]: made-up plan files
 //! - [`timing`]: nanoseconds a run
+//! - [`cases`]: the plan files of crates/cases and what the program must print of each
 //! - `library`: the planner's own library, with the feature of that name
 //!
 //! This page has the operations that a caller may use with any input.
 
 use std::ops::Range;
 
+pub mod cases;
 pub mod file;
 #[cfg(feature = "library")]
 pub mod library;

@@ -5,7 +5,7 @@ use std::path::Path;
 
 use reference::random::{self, Random, Sizes};
 use reference::system::Row;
-use reference::{candidates, library, plan, supply_answer, weigh, Refusal, PROGRAM_ROOM};
+use reference::{candidates, cases, library, plan, supply_answer, weigh, Refusal, PROGRAM_ROOM};
 
 /// Every part number of a file of up to 16 parts, and some that no part has.
 fn part_numbers(random: &mut Random) -> impl Iterator<Item = usize> {
@@ -53,22 +53,16 @@ fn same_in_every_room(file: &[u8]) {
     }
 }
 
-/// The plan files of the package.
+/// The plan files of the cases and of bench/.
 fn files() -> Vec<Vec<u8>> {
-    let top = Path::new(env!("CARGO_MANIFEST_DIR"));
-    let mut files = Vec::new();
-    for folder in ["cases/small", "cases/full", "bench"] {
-        for entry in fs::read_dir(top.join(folder)).expect("the folder") {
-            let path = entry.expect("an entry").path();
-            if path
-                .extension()
-                .is_some_and(|extension| extension == "plan")
-            {
-                files.push(fs::read(path).expect("a plan file"));
-            }
-        }
+    let cases = cases::all().expect("the cases").into_iter();
+    let mut files: Vec<Vec<u8>> = cases.map(|case| case.file).collect();
+    let bench = Path::new(env!("CARGO_MANIFEST_DIR")).join("bench");
+    for entry in fs::read_dir(bench).expect("the folder") {
+        let path = entry.expect("an entry").path();
+        files.push(fs::read(path).expect("a plan file"));
     }
-    assert!(files.len() > 100, "{} files", files.len());
+    assert!(files.len() > 256, "{} files", files.len());
     files
 }
 

@@ -1,14 +1,11 @@
 //! The fast reference against the expected listings, against brute force, and against the
 //! readings of the paper's open places.
 
-use std::fs;
-use std::path::{Path, PathBuf};
-
 use reference::file::{self, Part, LONGEST_FILE};
 use reference::local::{self, Local, Pair};
 use reference::random::{self, Random, Sizes};
 use reference::system::{self, Candidates, Row, Weighing};
-use reference::{candidates, literal, name, plan, printed, supply_answer, weigh};
+use reference::{candidates, cases, literal, name, plan, printed, supply_answer, weigh};
 use reference::{Refusal, PROGRAM_ROOM};
 
 // ---- helpers ----
@@ -84,39 +81,19 @@ fn lossy(bytes: &[u8]) -> String {
 
 // ---- the expected listings ----
 
-/// Every case: its name, its file and what the program must print.
-fn cases() -> Vec<(PathBuf, Vec<u8>, Vec<u8>)> {
-    let top = Path::new(env!("CARGO_MANIFEST_DIR")).join("cases");
-    let mut cases = Vec::new();
-    for folder in ["small", "full"] {
-        for entry in fs::read_dir(top.join(folder)).expect("the folder of cases") {
-            let path = entry.expect("an entry").path();
-            if path
-                .extension()
-                .is_some_and(|extension| extension == "plan")
-            {
-                let file = fs::read(&path).expect("a plan file");
-                let expected = fs::read(path.with_extension("expected")).expect("a listing");
-                cases.push((path, file, expected));
-            }
+#[test]
+fn every_case_prints_its_expected_text() {
+    let mut rest = lossy(&cases::expected().expect("the expected output"));
+    let cases = cases::all().expect("the cases");
+    assert!(cases.len() >= 256, "only {} cases", cases.len());
+    for case in cases {
+        let text = lossy(&cases::head(&case)) + &lossy(&printed(&case.file));
+        match rest.strip_prefix(&text) {
+            Some(behind) => rest = behind.to_owned(),
+            None => panic!("expected is another text than\n{text}"),
         }
     }
-    cases.sort();
-    cases
-}
-
-#[test]
-fn every_case_prints_its_expected_listing() {
-    let cases = cases();
-    assert!(cases.len() >= 256, "only {} cases", cases.len());
-    for (path, file, expected) in cases {
-        assert_eq!(
-            lossy(&printed(&file)),
-            lossy(&expected),
-            "{}",
-            path.display()
-        );
-    }
+    assert_eq!(rest, "");
 }
 
 // ---- the fast reference against brute force ----
