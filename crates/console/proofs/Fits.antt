@@ -1,25 +1,31 @@
--- A listing that is answered fits the bytes that are lent.
+-- A listing that is answered fits the bytes that are lent, and 3,690 bytes are enough for any listing; so the program's 8,192 are.
 -- Assumes nothing.
 use Prim.Native.Nat.{ℕ, _≤_}
 use native.Mathlib.Omega.{arith}
-use mathlib.Core.Path.{_≡_, refl, sym, subst, _∙_}
+use mathlib.Core.Path.{_≡_, refl, sym, ap, subst, _∙_}
 use mathlib.Core.Bool.{Bool, true, false, cond}
 use mathlib.Core.List.{List}
-use borrow.Author.Tests.{leb-true}
+use borrow.Author.Tests.{leb-true, le-leb}
 use lib.Dec.{leb}
 use lib.ListN.{length}
 use Rattle.refusal.specs.declared.Refusal.{Refusal}
 use Rattle.refusal.specs.declared.Refusal.the-variants.{NoRoom}
+use Rattle.refusal.specs.Number.{refusalNumber}
 use Rattle.refusal.specs.Questions.{Answer}
 use Rattle.refusal.specs.Questions.Answer.{answered, refused}
-use Rattle.refusal.proofs.Answers.{answered-not-refused}
+use Rattle.refusal.proofs.Answers.{answered-not-refused, refused-same}
 use Rattle.plan_file.specs.Above.{FilePart}
 use Rattle.plan_file.specs.Reading.{readFile}
+use Rattle.plan_file.proofs.Fine.{read-fine, read-few}
+use Rattle.plan_file.proofs.Refusals.{read-refused-to-nine}
 use Rattle.answers.specs.Answers.{planOf}
 use Rattle.planning.proofs.Answering.{plan-unread}
-use Rattle.planner.specs.Demand3.{Planning}
+use Rattle.planner.specs.Demand3.{NoneToPlan, Planning}
+use Rattle.planner.specs.Demand3.NoneToPlan.{ten, eleven}
 use Rattle.planner.specs.Demand3.Planning.{refusing, planning}
 use Rattle.planner.proofs.Demand3.{plan-demand3}
+use Rattle.planner.proofs.Short.{printed-most}
+use Rattle.console.specs.Printed.{programRoom}
 
 fits-or-14 : (text u : List ℕ) (room : ℕ) (b : Bool) → leb (length text) room ≡ b → cond b (answered text) (refused NoRoom) ≡ answered u → length u ≤ room
 fits-or-14 text u room true b e = let same : text ≡ u = cc in subst (λ (l : List ℕ). length l ≤ room) same (leb-true (length text) room b)
@@ -35,3 +41,30 @@ answered-fits s room text e = go (readFile s) refl
     go : (a : Answer (List FilePart)) → readFile s ≡ a → length text ≤ room
     go (answered ps) f = read ps (plan-demand3 s ps f)
     go (refused r) f = absurd (answered-not-refused (sym e ∙ plan-unread s r f room))
+
+-- refusals 1 to 11 are not 14
+number-not-14 : (r : Refusal) → refusalNumber r ≤ 11 → r ≡ NoRoom → ⊥
+number-not-14 r h e = omega (arith, ap refusalNumber e)
+
+none-to-11 : {ps : List FilePart} {r : Refusal} → NoneToPlan ps r → refusalNumber r ≤ 11
+none-to-11 (ten n) = omega arith
+none-to-11 (eleven each never) = omega arith
+
+fits-not-14 : (text : List ℕ) (room : ℕ) → length text ≤ room → cond (leb (length text) room) (answered text) (refused NoRoom) ≡ refused NoRoom → ⊥
+fits-not-14 text room h e = answered-not-refused (simp (le-leb (length text) room h) at e)
+
+pub enough-room : (room : ℕ) → 3690 ≤ room → (s : List ℕ) → planOf s room ≡ refused NoRoom → ⊥
+enough-room room h s e = go (readFile s) refl
+  where
+    read : (ps : List FilePart) → readFile s ≡ answered ps → Planning planOf s ps → ⊥
+    read ps f (refusing r n are) = number-not-14 r (none-to-11 n) (refused-same (sym (are room) ∙ e))
+    read ps f (planning text p are) =
+        fits-not-14 text room (omega (arith, printed-most (read-fine s ps f) p (read-few s ps f))) (sym (are room) ∙ e)
+
+    go : (a : Answer (List FilePart)) → readFile s ≡ a → ⊥
+    go (answered ps) f = read ps f (plan-demand3 s ps f)
+    go (refused r) f = number-not-14 r (omega (arith, read-refused-to-nine s r f)) (refused-same (sym (plan-unread s r f room) ∙ e))
+
+-- the program lends 8,192 bytes, enough for any listing
+pub any-listing-fits : (s : List ℕ) → planOf s programRoom ≡ refused NoRoom → ⊥
+any-listing-fits s e = enough-room programRoom (omega arith) s e

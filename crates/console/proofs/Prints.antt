@@ -1,20 +1,17 @@
 -- What stands in the program's buffer, zeros before, is what is to be printed: the listing behind a plan, the line behind a refusal.
 -- Assumes nothing.
-use Prim.Native.Nat.{ℕ, zero, suc, _+_, _^_, _≤_, _<_}
-use native.Mathlib.Nat.{le-of-suc-le-suc, not-suc-le-zero}
+use Prim.Native.Nat.{ℕ, _+_, _^_, _≤_, _<_}
 use native.Mathlib.Omega.{arith}
 use mathlib.Core.Path.{_≡_, refl, sym, ap, ap₂, subst, _∙_}
-use mathlib.Core.List.{List, [], _∷_, _++_}
+use mathlib.Core.List.{List, [], _++_}
 use lib.ListN.{length, drop, replicate, length-replicate}
 use Rattle.least.specs.Lists.{pad}
-use Rattle.least.proofs.Pad.{length-pad, pad-none}
+use Rattle.least.proofs.Pad.{pad-none, pad-over}
 use Rattle.refusal.specs.declared.Refusal.{Refusal}
-use Rattle.refusal.specs.declared.Outcome.{Outcome}
 use Rattle.refusal.specs.declared.Outcome.the-variants.{Done, Refused}
 use Rattle.refusal.specs.Number.{numberOf, placeOf}
 use Rattle.refusal.specs.Questions.{Answer}
 use Rattle.refusal.specs.Questions.Answer.{answered, refused}
-use Rattle.text.specs.Decimal.{digitsOf}
 use Rattle.writer.specs.Written.{Written}
 use Rattle.writer.proofs.Digits.{digits-most}
 use Rattle.writer.proofs.Written.{written-whole}
@@ -25,14 +22,6 @@ use Rattle.answers.specs.Answers.{planOf, planned, bufferAfter}
 use Rattle.console.specs.declared.Printed.{Printed}
 use Rattle.console.specs.Printed.{programRoom, printedText, printedOf, printed}
 use Rattle.console.proofs.Fits.{answered-fits}
-
--- a list written over the start of zeros
-pad-over : {A : Type 0} (k : ℕ) (z : A) (xs : List A) → length xs ≤ k → xs ++ drop (length xs) (pad k z []) ≡ pad k z xs
-unfolding pad
-pad-over zero z [] h = refl
-pad-over zero z (x ∷ xs) h = absurd (not-suc-le-zero h)
-pad-over (suc k) z [] h = refl
-pad-over {A} (suc k) z (x ∷ xs) h = ap (λ (l : List A). x ∷ l) (pad-over k z xs (le-of-suc-le-suc h))
 
 -- the program's buffer before a plan
 abbrev pub zeros : List ℕ

@@ -1,11 +1,11 @@
--- The laws of `pad`: its length, its elements, and what a store and a longer list do to it.
+-- The laws of `pad`: its length, its elements, its start, and what a store and a longer list do to it.
 -- Assumes nothing.
 use Prim.Native.Nat.{ℕ, zero, suc, _+_, _≤_, _<_}
 use native.Mathlib.Nat.{le-of-lt, le-of-suc-le-suc, not-suc-le-zero}
 use native.Mathlib.Numerals.{add-one}
 use mathlib.Core.Path.{_≡_, refl, ap}
 use mathlib.Core.List.{List, [], _∷_, _++_}
-use lib.ListN.{length, take, set, getD, replicate}
+use lib.ListN.{length, take, drop, set, getD, replicate}
 use lib.Seq.{take-suc, length-take-le}
 use Rattle.least.specs.Lists.{pad}
 
@@ -57,3 +57,11 @@ module _ {A : Type 0} where
   take-pad zero z (x ∷ xs) h = absurd (not-suc-le-zero h)
   take-pad (suc k) z [] h = refl
   take-pad (suc k) z (x ∷ xs) h = ap (λ (l : List A). x ∷ l) (take-pad k z xs (le-of-suc-le-suc h))
+
+  -- a list over the start of an array without elements
+  pub pad-over : (k : ℕ) (z : A) (xs : List A) → length xs ≤ k → xs ++ drop (length xs) (pad k z []) ≡ pad k z xs
+  unfolding pad
+  pad-over zero z [] h = refl
+  pad-over zero z (x ∷ xs) h = absurd (not-suc-le-zero h)
+  pad-over (suc k) z [] h = refl
+  pad-over (suc k) z (x ∷ xs) h = ap (λ (l : List A). x ∷ l) (pad-over k z xs (le-of-suc-le-suc h))

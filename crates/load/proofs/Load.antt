@@ -191,6 +191,21 @@ pub boundsOf-length : (rows : List Row) → length (boundsOf rows) ≡ length ro
 unfolding boundsOf
 boundsOf-length rows = behind-length [] rows
 
+-- their numbers are at most the periods
+behind-small : (M : ℕ) (lower rows : List Row) → ((r : Row) → List·Memᴰ r rows → (1 ≤ r .period) × (r .period ≤ M))
+    → (b : Frac) → List·Memᴰ b (behind boundOf lower rows) → (b .num ≤ M) × (b .den ≤ M)
+unfolding behind
+behind-small M lower (r ∷ rs) h b (List·Memᴰ·head e) =
+    let p = h r (List·Memᴰ·head refl) in
+    let k = boundOf-small lower r rs (p .0) in
+    rw e (omega (arith, k .0, p .1), omega (arith, k .1, p .1))
+behind-small M lower (r ∷ rs) h b (List·Memᴰ·tail m) = behind-small M (r ∷ lower) rs (λ s k. h s (List·Memᴰ·tail k)) b m
+
+pub boundsOf-small : (M : ℕ) (rows : List Row) → ((r : Row) → List·Memᴰ r rows → (1 ≤ r .period) × (r .period ≤ M))
+    → (b : Frac) → List·Memᴰ b (boundsOf rows) → (b .num ≤ M) × (b .den ≤ M)
+unfolding boundsOf
+boundsOf-small M rows h = behind-small M [] rows h
+
 -- the system passes exactly if its load is finite
 every-more : (lower : List Row) (r : Row) (rs : List Row) → (everyBehind rowPasses lower (r ∷ rs) ≡ true) ↔ ((rowPasses lower r rs ≡ true) × (everyBehind rowPasses (r ∷ lower) rs ≡ true))
 unfolding everyBehind

@@ -1,30 +1,31 @@
--- The numbers of a readable file are in range, by questions 7 to 9.
+-- The names of a readable file are short, and its numbers and counts in range, by questions 5 to 9.
 --   FineFileLock C l == of a lock l of a task with the cost C: 1 ≤ c ≤ C
 --   FineFileTask t   == 1 ≤ C ≤ D ≤ T ≤ 65,535, and so of its locks
---   FineFilePart p   == 1 ≤ P ≤ 65,535, at most 16 tasks and 8 lock names, and so of its tasks
+--   FineFilePart p   == 1 ≤ P ≤ 65,535, at most 16 tasks and 8 lock names, names of at most 8 bytes, and so of its tasks
 -- Assumes nothing.
 use Prim.Native.Nat.{ℕ, suc, _≤_}
 use native.Mathlib.Omega.{arith}
 use mathlib.Core.Path.{_≡_, refl, subst}
-use mathlib.Core.Bool.{true, _&&_}
+use mathlib.Core.Bool.{Bool, true, false, _&&_}
 use mathlib.Core.List.{List, [], _∷_, _++_, List·Memᴰ, List·Memᴰ·not-nil}
 use lib.ListN.{length, length-map, length-append}
 use Rattle.least.specs.Lists.{onLast, joined}
 use Rattle.least.proofs.Lists.{and-iff}
-use Rattle.text.specs.Bytes.{Line, linesOf, among, distinctAfter}
+use Rattle.text.specs.Bytes.{among, mention, distinctAfter}
 use Rattle.text.specs.Decimal.{valueOf}
 use Rattle.refusal.specs.declared.Outcome.the-variants.{Done}
-use Rattle.refusal.specs.Limits.{numberLimit, taskLimit, lockLimit}
+use Rattle.refusal.specs.Limits.{numberLimit, nameLimit, partLimit, taskLimit, lockLimit}
 use Rattle.refusal.specs.Questions.{firstNo}
 use Rattle.refusal.specs.Questions.Answer.{answered}
-use Rattle.refusal.proofs.Questions.{allYes, done-iff}
-use Rattle.scan.specs.Line.{lineIsGood}
-use Rattle.records.specs.Records.{Record, recordIn}
+use Rattle.fields.specs.Fields.{isName}
+use Rattle.fields.proofs.Fields.{name-iff}
+use Rattle.records.specs.Records.{Record}
 use Rattle.records.specs.Records.Record.{part, task, lock, end, noRecord}
-use Rattle.plan_file.specs.Above.{FileLock, FileTask, FilePart, Above, noTask, noPart, nothingAbove, thisPart, thisTask, lockMentions, lockNames, withLock, withTasks, partsAfter, after}
-use Rattle.plan_file.specs.Reading.{notBehindEnd, taskAbove, allowedHere, recordQuestions, questionsAt, readFile, partNames, taskNames, locksOf}
-use Rattle.plan_file.proofs.Reading.{said, AllYes, yes-first, yes-rest, read-answered-iff}
+use Rattle.plan_file.specs.Above.{FileLock, FileTask, FilePart, Above, noTask, noPart, thisPart, thisTask, lockMentions, lockNames, withLock, withTasks, partsAfter, after}
+use Rattle.plan_file.specs.Reading.{notBehindEnd, taskAbove, allowedHere, recordQuestions, readFile, partNames, taskNames, locksOf}
+use Rattle.plan_file.proofs.Reading.{read-answered-iff, read-keeps}
 use Rattle.plan_file.proofs.SeenLast.{last-member, length-on-last, snoc-each, on-last-each}
+use Rattle.plan_file.proofs.SeenNames.{mention-known, mention-new}
 use Rattle.plan_file.proofs.SeenLocks.{lock-names-task, lock-names-lock}
 use Rattle.plan_file.proofs.SeenPart.{lastTask}
 use Rattle.plan_file.proofs.SeenAbove.{taskOf, lockOf}
@@ -47,15 +48,36 @@ pub record FineFilePart (p : FilePart) : Type 0 where
   pub period-most : p .period ≤ numberLimit
   pub few-tasks : length (p .tasks) ≤ taskLimit
   pub few-locks : length (lockNames p) ≤ lockLimit
+  pub name-most : length (p .name) ≤ nameLimit
+  pub lock-names-most : (n : List ℕ) → List·Memᴰ n (lockNames p) → length n ≤ nameLimit
   pub each-task : (t : FileTask) → List·Memᴰ t (p .tasks) → FineFileTask t
 
 abbrev pub AllFine : List FilePart → Type 0
 AllFine ps = (p : FilePart) → List·Memᴰ p ps → FineFilePart p
 
+name-short : (name : List ℕ) → isName name ≡ true → length name ≤ nameLimit
+name-short name e = name-iff name .0 e .to
+
 -- a part without tasks
-new-part-fine : (name : List ℕ) (P : ℕ) → 1 ≤ P → P ≤ numberLimit → FineFilePart (record { name = name; period = P; tasks = [] })
+new-part-fine : (name : List ℕ) (P : ℕ) → 1 ≤ P → P ≤ numberLimit → isName name ≡ true → FineFilePart (record { name = name; period = P; tasks = [] })
 unfolding lockNames lockMentions joined distinctAfter
-new-part-fine name P h k = record { period-some = h; period-most = k; few-tasks = omega arith; few-locks = omega arith; each-task = λ t m. absurd (List·Memᴰ·not-nil m) }
+new-part-fine name P h k e = record {
+  period-some = h;
+  period-most = k;
+  few-tasks = omega arith;
+  few-locks = omega arith;
+  name-most = name-short name e;
+  lock-names-most = λ n m. absurd (List·Memᴰ·not-nil m);
+  each-task = λ t m. absurd (List·Memᴰ·not-nil m);
+}
+
+-- one name more
+mention-each : (P : List ℕ → Type 0) (names : List (List ℕ)) (name : List ℕ) → ((n : List ℕ) → List·Memᴰ n names → P n) → P name → (n : List ℕ) → List·Memᴰ n (mention names name) → P n
+mention-each P names name all h = go (among name names) refl
+  where
+    go : (b : Bool) → among name names ≡ b → (n : List ℕ) → List·Memᴰ n (mention names name) → P n
+    go true e = rw (mention-known name names e) all
+    go false e = rw (mention-new name names e) (snoc-each P names name all h)
 
 -- one task more, one lock more of the last task
 module _ (p : FilePart) (fine : FineFilePart p) where
@@ -65,6 +87,8 @@ module _ (p : FilePart) (fine : FineFilePart p) where
     period-most = fine .period-most;
     few-tasks = omega (arith, length-append (p .tasks) (t ∷ []));
     few-locks = rw (lock-names-task p t e) (fine .few-locks);
+    name-most = fine .name-most;
+    lock-names-most = rw (lock-names-task p t e) (fine .lock-names-most);
     each-task = snoc-each FineFileTask (p .tasks) t (fine .each-task) f;
   }
 
@@ -80,12 +104,14 @@ module _ (p : FilePart) (fine : FineFilePart p) where
     each-lock = snoc-each (FineFileLock (t .cost)) (t .locks) l (f .each-lock) h;
   }
 
-  lock-fine : (l : FileLock) → 1 ≤ length (p .tasks) → length (lockNames (withTasks (onLast (withLock l)) p)) ≤ lockLimit → FineFileLock (lastTask p .cost) l → FineFilePart (withTasks (onLast (withLock l)) p)
-  lock-fine l some few h = record {
+  lock-fine : (l : FileLock) → 1 ≤ length (p .tasks) → length (lockNames (withTasks (onLast (withLock l)) p)) ≤ lockLimit → isName (l .name) ≡ true → FineFileLock (lastTask p .cost) l → FineFilePart (withTasks (onLast (withLock l)) p)
+  lock-fine l some few e h = record {
     period-some = fine .period-some;
     period-most = fine .period-most;
     few-tasks = rw (length-on-last (withLock l) (p .tasks)) (fine .few-tasks);
     few-locks = few;
+    name-most = fine .name-most;
+    lock-names-most = rw (lock-names-lock p l some) (mention-each (λ n. length n ≤ nameLimit) (lockNames p) (l .name) (fine .lock-names-most) (name-short (l .name) e));
     each-task = on-last-each FineFileTask (withLock l) noTask (p .tasks) (fine .each-task) (λ k. with-lock-fine l (lastTask p) (last-fine some) h);
   }
 
@@ -98,7 +124,7 @@ module _ (n : ℕ) (a : Above) (fine : AllFine (a .parts)) where
   unfolding recordQuestions partsAfter
   part-keeps name P e =
       let d = part-done n (allowedHere a (part name P)) (partNames (a .parts)) name P e in
-      snoc-each FineFilePart (a .parts) (record { name = name; period = valueOf P; tasks = [] }) fine (new-part-fine name (valueOf P) (d .2) (d .3))
+      snoc-each FineFilePart (a .parts) (record { name = name; period = valueOf P; tasks = [] }) fine (new-part-fine name (valueOf P) (d .2) (d .3) (d .4))
 
   task-keeps : (name T C D : List ℕ) → firstNo (recordQuestions n a (task name T C D)) ≡ Done → AllFine (after a (task name T C D) .parts)
   unfolding recordQuestions partsAfter
@@ -115,7 +141,7 @@ module _ (n : ℕ) (a : Above) (fine : AllFine (a .parts)) where
       let l = lockOf name c in
       let t = not-empty (thisPart a .tasks) (and-iff (notBehindEnd a) (taskAbove a) .0 (d .0) .1) in
       let few : length (lockNames (withTasks (onLast (withLock l)) (thisPart a))) ≤ lockLimit = rw (lock-names-lock (thisPart a) l t) (d .3) in
-      on-last-each FineFilePart (withTasks (onLast (withLock l))) noPart (a .parts) fine (λ some. lock-fine (thisPart a) (this-fine some) l t few (record { held-some = d .2; held-most = d .4 }))
+      on-last-each FineFilePart (withTasks (onLast (withLock l))) noPart (a .parts) fine (λ some. lock-fine (thisPart a) (this-fine some) l t few (d .5) (record { held-some = d .2; held-most = d .4 }))
 
   record-keeps : (r : Record) → firstNo (recordQuestions n a r) ≡ Done → AllFine (after a r .parts)
   unfolding partsAfter
@@ -125,17 +151,23 @@ module _ (n : ℕ) (a : Above) (fine : AllFine (a .parts)) where
   record-keeps end e = fine
   record-keeps noRecord e = fine
 
-line-keeps : (n : ℕ) (a : Above) (l : Line) → AllFine (a .parts) → allYes (questionsAt n a l) ≡ true → AllFine (after a (recordIn l) .parts)
-unfolding questionsAt allYes
-line-keeps n a l fine e =
-    record-keeps n a fine (recordIn l) (done-iff (recordQuestions n a (recordIn l)) .1 (and-iff (lineIsGood l) (allYes (recordQuestions n a (recordIn l))) .0 e .1))
-
-lines-keep : (n : ℕ) (a : Above) (ls : List Line) → AllFine (a .parts) → AllYes n a ls → AllFine (said a ls .parts)
-unfolding said
-lines-keep n a [] fine all = fine
-lines-keep n a (l ∷ ls) fine all = lines-keep (suc n) (after a (recordIn l)) ls (line-keeps n a l fine (yes-first n a l ls all)) (yes-rest n a l ls all)
-
 pub read-fine : (s : List ℕ) (ps : List FilePart) → readFile s ≡ answered ps → AllFine ps
 read-fine s ps e =
-    let d = read-answered-iff s ps .0 e in
-    subst AllFine (d .are) (lines-keep 1 nothingAbove (linesOf s) (λ p m. absurd (List·Memᴰ·not-nil m)) (d .yes))
+    subst AllFine (read-answered-iff s ps .0 e .are)
+    (read-keeps (λ a. AllFine (a .parts)) (λ n a r fine. record-keeps n a fine r) (λ p m. absurd (List·Memᴰ·not-nil m)) s ps e)
+
+-- at most 16 parts
+record-few : (n : ℕ) (a : Above) (r : Record) → length (a .parts) ≤ partLimit → firstNo (recordQuestions n a r) ≡ Done → length (after a r .parts) ≤ partLimit
+unfolding recordQuestions partsAfter
+record-few n a (part name P) h e =
+    let d = part-done n (allowedHere a (part name P)) (partNames (a .parts)) name P e in
+    omega (arith, d .1, length-map (a .parts) (λ p. p .name), length-append (a .parts) (record { name = name; period = valueOf P; tasks = [] } ∷ []))
+record-few n a (task name T C D) h e = rw (length-on-last (withTasks (λ ts. ts ++ (taskOf name T C D ∷ []))) (a .parts)) h
+record-few n a (lock name c) h e = rw (length-on-last (withTasks (onLast (withLock (lockOf name c)))) (a .parts)) h
+record-few n a end h e = h
+record-few n a noRecord h e = h
+
+pub read-few : (s : List ℕ) (ps : List FilePart) → readFile s ≡ answered ps → length ps ≤ partLimit
+read-few s ps e =
+    subst (λ (qs : List FilePart). length qs ≤ partLimit) (read-answered-iff s ps .0 e .are)
+    (read-keeps (λ a. length (a .parts) ≤ partLimit) record-few (omega arith) s ps e)

@@ -12,6 +12,7 @@ use mathlib.Core.List.{List, [], _∷_, _++_, append-nil}
 use borrow.Author.Tests.{leb-true, leb-false, le-leb, lt-leb}
 use lib.Dec.{leb}
 use lib.ListN.{length}
+use Rattle.least.proofs.Lists.{and-iff}
 use Rattle.text.specs.Bytes.{Line, linesOf}
 use Rattle.refusal.specs.declared.Refusal.{Refusal}
 use Rattle.refusal.specs.declared.Refusal.the-variants.{FileTooLong, Misplaced}
@@ -22,9 +23,10 @@ use Rattle.refusal.specs.Questions.{firstNo, Answer, whenDone}
 use Rattle.refusal.specs.Questions.Answer.{answered, refused}
 use Rattle.refusal.proofs.Answers.{answered-not-refused, answered-same, refused-same}
 use Rattle.refusal.proofs.Questions.{allYes, FirstNo, refused-iff, done-iff}
-use Rattle.records.specs.Records.{recordIn}
+use Rattle.scan.specs.Line.{lineIsGood}
+use Rattle.records.specs.Records.{Record, recordIn}
 use Rattle.plan_file.specs.Above.{FilePart, Above, nothingAbove, after}
-use Rattle.plan_file.specs.Reading.{isEnd, questionsAt, readLines, readFile}
+use Rattle.plan_file.specs.Reading.{isEnd, recordQuestions, questionsAt, readLines, readFile}
 
 unfoldable pub said : Above → List Line → Above
 said a [] = a
@@ -57,6 +59,18 @@ unfolding said
 yes-rest n a l ls p xs k behind e =
     let m : suc n + length xs ≡ n + suc (length xs) = omega arith in
     rw m (p (l ∷ xs) k behind (ap (λ (z : List Line). l ∷ z) e))
+
+-- what holds above the lines, and behind each record whose answers are yes, holds behind the last of them
+module _ (I : Above → Type 0) (keeps : (n : ℕ) (a : Above) (r : Record) → I a → firstNo (recordQuestions n a r) ≡ Done → I (after a r)) where
+  line-keeps : (n : ℕ) (a : Above) (l : Line) → I a → allYes (questionsAt n a l) ≡ true → I (after a (recordIn l))
+  unfolding questionsAt allYes
+  line-keeps n a l h e =
+      keeps n a (recordIn l) h (done-iff (recordQuestions n a (recordIn l)) .1 (and-iff (lineIsGood l) (allYes (recordQuestions n a (recordIn l))) .0 e .1))
+
+  lines-keep : (n : ℕ) (a : Above) (ls : List Line) → I a → AllYes n a ls → I (said a ls)
+  unfolding said
+  lines-keep n a [] h all = h
+  lines-keep n a (l ∷ ls) h all = lines-keep (suc n) (after a (recordIn l)) ls (line-keeps n a l h (yes-first n a l ls all)) (yes-rest n a l ls all)
 
 -- one line is read
 read-next : (n : ℕ) (a : Above) (l : Line) (ls : List Line) → firstNo (questionsAt n a l) ≡ Done → readLines n a (l ∷ ls) ≡ readLines (suc n) (after a (recordIn l)) ls
@@ -182,3 +196,7 @@ read-answered-iff s ps = (λ e. go e (file-known s), answered-so s ps)
     go : readFile s ≡ answered ps → Known s → AnsweredBy s ps
     go e (inl d) = absurd (answered-not-refused (sym e ∙ refused-so s (d .0) (d .1)))
     go e (inr d) = subst (AnsweredBy s) (answered-same (sym (answered-so s (d .0) (d .1)) ∙ e)) (d .1)
+
+pub read-keeps : (I : Above → Type 0) → ((n : ℕ) (a : Above) (r : Record) → I a → firstNo (recordQuestions n a r) ≡ Done → I (after a r)) → I nothingAbove
+    → (s : List ℕ) (ps : List FilePart) → readFile s ≡ answered ps → I (said nothingAbove (linesOf s))
+read-keeps I keeps h s ps e = lines-keep I keeps 1 nothingAbove (linesOf s) h (read-answered-iff s ps .0 e .yes)

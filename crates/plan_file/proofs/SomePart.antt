@@ -1,23 +1,21 @@
 -- A file that can be read has a part.
 --   PartSeen a == an `end` line stands behind a part
 -- Assumes nothing.
-use Prim.Native.Nat.{ℕ, suc, _≤_}
+use Prim.Native.Nat.{ℕ, _≤_}
 use mathlib.Core.Path.{_≡_}
 use mathlib.Core.Bool.{true, false≢true}
-use mathlib.Core.List.{List, [], _∷_}
+use mathlib.Core.List.{List}
 use lib.ListN.{length}
 use Rattle.least.proofs.Lists.{and-iff}
 use Rattle.refusal.specs.declared.Outcome.the-variants.{Done}
 use Rattle.refusal.specs.Questions.{firstNo}
 use Rattle.refusal.specs.Questions.Answer.{answered}
 use Rattle.refusal.proofs.Questions.{allYes, done-iff}
-use Rattle.text.specs.Bytes.{Line, linesOf}
-use Rattle.scan.specs.Line.{lineIsGood}
-use Rattle.records.specs.Records.{Record, recordIn}
+use Rattle.records.specs.Records.{Record}
 use Rattle.records.specs.Records.Record.{part, task, lock, end, noRecord}
-use Rattle.plan_file.specs.Above.{Above, FilePart, nothingAbove, after, partsAfter}
-use Rattle.plan_file.specs.Reading.{isEnd, notBehindEnd, notBehindPart, partAbove, allowedHere, recordQuestions, questionsAt, readFile}
-use Rattle.plan_file.proofs.Reading.{said, AllYes, yes-first, yes-rest, read-answered-iff}
+use Rattle.plan_file.specs.Above.{Above, FilePart, after, partsAfter}
+use Rattle.plan_file.specs.Reading.{isEnd, notBehindEnd, notBehindPart, partAbove, allowedHere, recordQuestions, readFile}
+use Rattle.plan_file.proofs.Reading.{read-answered-iff, read-keeps}
 use Rattle.plan_file.proofs.SeenEntered.{not-empty}
 
 abbrev PartSeen : Above → Type 0
@@ -33,14 +31,8 @@ record-seen n a end e h =
     not-empty (a .parts) (and-iff (notBehindPart a) (partAbove a) .0 (and-iff (notBehindEnd a) _ .0 yes-here .1) .1)
 record-seen n a noRecord e h = absurd (false≢true h)
 
-lines-seen : (n : ℕ) (a : Above) (ls : List Line) → PartSeen a → AllYes n a ls → PartSeen (said a ls)
-unfolding said questionsAt allYes
-lines-seen n a [] seen all = seen
-lines-seen n a (l ∷ ls) seen all =
-    lines-seen (suc n) (after a (recordIn l)) ls (record-seen n a (recordIn l) (done-iff (recordQuestions n a (recordIn l)) .1 (and-iff (lineIsGood l) (allYes (recordQuestions n a (recordIn l))) .0 (yes-first n a l ls all) .1))) (yes-rest n a l ls all)
-
 pub read-some : (s : List ℕ) (ps : List FilePart) → readFile s ≡ answered ps → 1 ≤ length ps
 unfolding isEnd
 read-some s ps e =
     let d = read-answered-iff s ps .0 e in
-    rw (d .are) at (lines-seen 1 nothingAbove (linesOf s) (λ h. absurd (false≢true h)) (d .yes) (d .ended))
+    rw (d .are) at (read-keeps PartSeen (λ n a r seen. record-seen n a r) (λ h. absurd (false≢true h)) s ps e (d .ended))

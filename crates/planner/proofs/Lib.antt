@@ -1,3 +1,4 @@
 pub mod Local
 pub mod Demand3
 pub mod Exactly
+pub mod Short

@@ -28,7 +28,7 @@ use Rattle.plan_file.proofs.Fine.{FineFilePart, AllFine}
 use Rattle.answers.specs.Choice.{FromKept}
 
 -- a kept row is in range
-deadline-most : (q : FilePart) → FineFilePart q → (t : Task) → List·Memᴰ t (tasksIn q) → t .deadline ≤ numberLimit
+pub deadline-most : (q : FilePart) → FineFilePart q → (t : Task) → List·Memᴰ t (tasksIn q) → t .deadline ≤ numberLimit
 unfolding tasksIn taskIn
 deadline-most q fine t m =
     let x = map-iff (taskIn (lockNames q)) t (q .tasks) .0 m in

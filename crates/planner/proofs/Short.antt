@@ -1,0 +1,112 @@
+-- What is printed of a readable file is short: 3,690 bytes at most.
+-- Assumes nothing.
+use Prim.Native.Nat.{ℕ, suc, _+_, _≤_, _<_}
+use native.Mathlib.Omega.{arith}
+use mathlib.Core.Path.{_≡_, refl, sym, ap, subst, _∙_}
+use mathlib.Core.List.{List, [], _∷_, map, List·Memᴰ, List·Memᴰ·head, List·Memᴰ·tail, Memᴰ·map}
+use borrow.Author.Tests.{leb-true}
+use lib.Dec.{leb}
+use lib.ListN.{length, length-map}
+use Rattle.least.specs.Each.{Each}
+use Rattle.least.specs.Each.Each.{more}
+use Rattle.least.proofs.Each.{length-equal}
+use Rattle.least.proofs.Lists.{and-iff, map-iff, every-range}
+use Rattle.refusal.specs.Limits.{numberLimit, partLimit, taskLimit}
+use Rattle.task_set.specs.declared.Task.{Task}
+use Rattle.task_set.specs.Blocking.{Setting}
+use Rattle.task_set.specs.Tasks.{lowestCeiling}
+use Rattle.holding.specs.Holding.{inRange}
+use Rattle.candidates.specs.Statement.{Permitted}
+use Rattle.candidates.proofs.Shown.{deadlines-holding}
+use Rattle.load.specs.declared.Row.{Row}
+use Rattle.load.proofs.Load.{boundsOf-small}
+use Rattle.plan_file.specs.Above.{FilePart, lockNames}
+use Rattle.plan_file.specs.Numbers.{locksIn, taskIn, tasksIn}
+use Rattle.plan_file.proofs.Fine.{FineFilePart, AllFine}
+use Rattle.listing.specs.Listing.{Ceiling, Share}
+use Rattle.listing.proofs.Lengths.{ShortCeiling, ShortShare, listing-most}
+use Rattle.planning.proofs.Weighed.{deadline-most}
+use Rattle.planner.specs.Demand3.{ceilingsUnder, Stands, Printed}
+
+-- the ceilings under a setting, of the locks of these names
+under-length : (σ : Setting) (l : ℕ) (names : List (List ℕ)) → length (ceilingsUnder σ l names) ≡ length names
+under-length σ l [] = refl
+under-length σ l (name ∷ names) = ap suc (under-length σ (suc l) names)
+
+record LockAt (σ : Setting) (l : ℕ) (names : List (List ℕ)) (c : Ceiling) : Type 0 where
+  named : List·Memᴰ (c .lock) names
+  at : ℕ
+  from : l ≤ at
+  to : at < l + length names
+  is : c .number ≡ σ at
+
+under-member : (σ : Setting) (l : ℕ) (names : List (List ℕ)) (c : Ceiling) → List·Memᴰ c (ceilingsUnder σ l names) → LockAt σ l names c
+under-member σ l (name ∷ names) c (List·Memᴰ·head e) = record {
+  named = List·Memᴰ·head (ap (λ (x : Ceiling). x .lock) e);
+  at = l;
+  from = omega arith;
+  to = omega arith;
+  is = ap (λ (x : Ceiling). x .number) e;
+}
+under-member σ l (name ∷ names) c (List·Memᴰ·tail m) =
+    let r = under-member σ (suc l) names c m in
+    record { named = List·Memᴰ·tail (r .named); at = r .at; from = omega (arith, r .from); to = omega (arith, r .to); is = r .is }
+
+-- a ceiling is a task number
+ceiling-most : (ts : List Task) (m : ℕ) (σ : Setting) → Permitted ts m σ → (l : ℕ) → 1 ≤ l → l ≤ m → σ l ≤ length ts
+unfolding inRange
+ceiling-most ts m σ h l a b =
+    leb-true (σ l) (length ts) (and-iff (leb (lowestCeiling l ts) (σ l)) (leb (σ l) (length ts)) .0 (every-range (λ k. _) 1 m .0 (h .ranged) l a b) .1)
+
+tasks-few : (p : FilePart) → FineFilePart p → length (tasksIn p) ≤ taskLimit
+unfolding tasksIn
+tasks-few p fine = rw (length-map (p .tasks) (taskIn (lockNames p))) (fine .few-tasks)
+
+-- what is printed of a part
+module _ (p : FilePart) (fine : FineFilePart p) (s : Share) (h : Stands p s) where
+  period-is : s .row .period ≡ p .period
+  period-is = ap (λ (r : Row). r .period) (h .is)
+
+  ceilings-few : length (s .ceilings) ≤ 8
+  ceilings-few = omega (arith, ap length (h .ceilings), under-length (h .setting) 1 (lockNames p), fine .few-locks)
+
+  ceiling-short : (c : Ceiling) → List·Memᴰ c (s .ceilings) → ShortCeiling c
+  unfolding locksIn
+  ceiling-short c m =
+      let r = under-member (h .setting) 1 (lockNames p) c (subst (List·Memᴰ c) (h .ceilings) m) in
+      let n = ceiling-most (tasksIn p) (locksIn p) (h .setting) (h .local .allowed) (r .at) (r .from) (omega (arith, r .to)) in
+      record { lock = fine .lock-names-most (c .lock) (r .named); number = omega (arith, r .is, n, tasks-few p fine) }
+
+  share-short : s .bound .num ≤ numberLimit → s .bound .den ≤ numberLimit → ShortShare s
+  share-short num den = record {
+    name = omega (arith, ap length (h .name), fine .name-most);
+    period = omega (arith, period-is, fine .period-most);
+    budget = omega (arith, ap (λ (r : Row). r .budget) (h .is), h .local .most, fine .period-most);
+    holding = omega (arith, ap (λ (r : Row). r .holding) (h .is), deadlines-holding (tasksIn p) (locksIn p) numberLimit (deadline-most p fine) (h .setting) (h .local .allowed));
+    num = num;
+    den = den;
+    few = ceilings-few;
+    each = ceiling-short;
+  }
+
+each-right : {A B : Type 0} {R : A → B → Type 0} {xs : List A} {ys : List B} (y : B) → Each R xs ys → List·Memᴰ y ys → (x : A) × List·Memᴰ x xs × R x y
+each-right {R = R} y (more {x = x} h hs) (List·Memᴰ·head e) = (x, List·Memᴰ·head refl, subst (R x) (sym e) h)
+each-right y (more h hs) (List·Memᴰ·tail m) = let r = each-right y hs m in (r .0, List·Memᴰ·tail (r .1), r .2)
+
+module _ {ps : List FilePart} {text : List ℕ} (fine : AllFine ps) (p : Printed ps text) where
+  rows-served : (r : Row) → List·Memᴰ r (map (λ s. s .row) (p .shares)) → (1 ≤ r .period) × (r .period ≤ numberLimit)
+  rows-served r m =
+      let x = map-iff (λ s. s .row) r (p .shares) .0 m in
+      let q = each-right (x .0) (p .choice) (x .1) in
+      let f = fine (q .0) (q .1) in
+      let e : r .period ≡ q .0 .period = ap (λ (k : Row). k .period) (sym (x .2)) ∙ period-is (q .0) f (x .0) (q .2) in
+      (omega (arith, e, f .period-some), omega (arith, e, f .period-most))
+
+  shares-short : (s : Share) → List·Memᴰ s (p .shares) → ShortShare s
+  shares-short s m =
+      let q = each-right s (p .choice) m in
+      let b = boundsOf-small numberLimit (map (λ k. k .row) (p .shares)) rows-served (s .bound) (subst (List·Memᴰ (s .bound)) (p .bounds) (Memᴰ·map (λ k. k .bound) m)) in
+      share-short (q .0) (fine (q .0) (q .1)) s (q .2) (b .0) (b .1)
+
+  pub printed-most : length ps ≤ partLimit → length text ≤ 3690
+  printed-most few = omega (arith, ap length (p .bytes), listing-most (p .shares) (omega (arith, length-equal (p .choice))) shares-short)
