@@ -59,19 +59,29 @@ planOf s room = whenAnswered (readFile s) (λ parts. planParts parts room)
 abbrev pub isPartNumber : ℕ → List FilePart → Bool
 isPartNumber k parts = leb 1 k && leb k (length parts)
 
+-- questions 12 and 10
+abbrev pub candidateQuestions : ℕ → List FilePart → List Question
+candidateQuestions k parts =
+    ask (BadHandSet 0) (isPartNumber k parts)
+    ∷ ask (NoBudget k) (not (isEmpty (keptPairs (nthOr noPart k parts))))
+    ∷ []
+
 unfoldable pub candidatesOf : List ℕ → ℕ → Answer (List Pair)
-candidatesOf s k = whenAnswered (readFile s) (λ parts.
-    let kept = keptPairs (nthOr noPart k parts) in
-    whenDone (firstNo (ask (BadHandSet 0) (isPartNumber k parts) ∷ ask (NoBudget k) (not (isEmpty kept)) ∷ [])) (answered kept))
+candidatesOf s k = whenAnswered (readFile s) (λ parts. whenDone (firstNo (candidateQuestions k parts)) (answered (keptPairs (nthOr noPart k parts))))
+
+-- question 12
+abbrev pub nameQuestions : ℕ → List FilePart → List Question
+nameQuestions k parts = ask (BadHandSet 0) (isPartNumber k parts) ∷ []
 
 unfoldable pub nameOf : List ℕ → ℕ → Answer (List ℕ)
-nameOf s k = whenAnswered (readFile s) (λ parts.
-    whenDone (firstNo (ask (BadHandSet 0) (isPartNumber k parts) ∷ [])) (answered (nthOr noPart k parts .name)))
+nameOf s k = whenAnswered (readFile s) (λ parts. whenDone (firstNo (nameQuestions k parts)) (answered (nthOr noPart k parts .name)))
+
+-- question 12
+abbrev pub supplyQuestions : ℕ → ℕ → ℕ → List Question
+supplyQuestions P Q t = ask (BadHandSet 0) ((leb 1 Q && leb Q P) && (leb P numberLimit && leb t numberLimit)) ∷ []
 
 unfoldable pub supplyAnswer : ℕ → ℕ → ℕ → Answer ℕ
-supplyAnswer P Q t =
-    whenDone (firstNo (ask (BadHandSet 0) ((leb 1 Q && leb Q P) && (leb P numberLimit && leb t numberLimit)) ∷ []))
-    (answered (supplyOf P Q t))
+supplyAnswer P Q t = whenDone (firstNo (supplyQuestions P Q t)) (answered (supplyOf P Q t))
 
 unfoldable pub planned : Answer (List ℕ) → Planned
 planned (answered text) = record { outcome = Done; written = length text }

@@ -2,10 +2,10 @@
 -- Assumes nothing.
 use Prim.Native.Nat.{ℕ, _≤_}
 use native.Mathlib.Omega.{arith}
-use mathlib.Core.Path.{_≡_, refl, sym, ap, subst, _∙_}
-use mathlib.Core.Bool.{Bool, true, false, cond}
+use mathlib.Core.Path.{_≡_, refl, sym, ap, _∙_}
+use mathlib.Core.Bool.{cond}
 use mathlib.Core.List.{List}
-use borrow.Author.Tests.{leb-true, le-leb}
+use borrow.Author.Tests.{le-leb}
 use lib.Dec.{leb}
 use lib.ListN.{length}
 use Rattle.refusal.specs.declared.Refusal.{Refusal}
@@ -23,24 +23,9 @@ use Rattle.planning.proofs.Answering.{plan-unread}
 use Rattle.planner.specs.Demand3.{NoneToPlan, Planning}
 use Rattle.planner.specs.Demand3.NoneToPlan.{ten, eleven}
 use Rattle.planner.specs.Demand3.Planning.{refusing, planning}
-use Rattle.planner.proofs.Demand3.{plan-demand3}
+use Rattle.planner.proofs.Demand3.{demand-3}
 use Rattle.planner.proofs.Short.{printed-most}
 use Rattle.console.specs.Printed.{programRoom}
-
-fits-or-14 : (text u : List ℕ) (room : ℕ) (b : Bool) → leb (length text) room ≡ b → cond b (answered text) (refused NoRoom) ≡ answered u → length u ≤ room
-fits-or-14 text u room true b e = let same : text ≡ u = cc in subst (λ (l : List ℕ). length l ≤ room) same (leb-true (length text) room b)
-fits-or-14 text u room false b e = absurd (answered-not-refused (sym e))
-
-pub answered-fits : (s : List ℕ) (room : ℕ) (text : List ℕ) → planOf s room ≡ answered text → length text ≤ room
-answered-fits s room text e = go (readFile s) refl
-  where
-    read : (ps : List FilePart) → Planning planOf s ps → length text ≤ room
-    read ps (refusing r n are) = absurd (answered-not-refused (sym e ∙ are room))
-    read ps (planning u p are) = fits-or-14 u text room (leb (length u) room) refl (sym (are room) ∙ e)
-
-    go : (a : Answer (List FilePart)) → readFile s ≡ a → length text ≤ room
-    go (answered ps) f = read ps (plan-demand3 s ps f)
-    go (refused r) f = absurd (answered-not-refused (sym e ∙ plan-unread s r f room))
 
 -- refusals 1 to 11 are not 14
 number-not-14 : (r : Refusal) → refusalNumber r ≤ 11 → r ≡ NoRoom → ⊥
@@ -62,7 +47,7 @@ enough-room room h s e = go (readFile s) refl
         fits-not-14 text room (omega (arith, printed-most (read-fine s ps f) p (read-few s ps f))) (sym (are room) ∙ e)
 
     go : (a : Answer (List FilePart)) → readFile s ≡ a → ⊥
-    go (answered ps) f = read ps f (plan-demand3 s ps f)
+    go (answered ps) f = read ps f (demand-3 s ps f)
     go (refused r) f = number-not-14 r (omega (arith, read-refused-to-nine s r f)) (refused-same (sym (plan-unread s r f room) ∙ e))
 
 -- the program lends 8,192 bytes, enough for any listing

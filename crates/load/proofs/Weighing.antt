@@ -20,7 +20,8 @@ use Rattle.refusal.specs.declared.Outcome.{Outcome}
 use Rattle.refusal.specs.declared.Outcome.the-variants.{Done, Refused}
 use Rattle.refusal.specs.declared.Refusal.the-variants.{BadHandSet, NoTime}
 use Rattle.refusal.specs.Limits.{rowLimit}
-use Rattle.refusal.proofs.Questions.{allYes, yes-next, no-answers, done-iff}
+use Rattle.refusal.specs.FirstNo.{allYes}
+use Rattle.refusal.proofs.Questions.{yes-next, no-answers, done-iff}
 use Rattle.load.specs.declared.Row.{Row}
 use Rattle.load.specs.declared.Rows.{Rows}
 use Rattle.load.specs.declared.Weighed.{Weighed}

@@ -12,14 +12,15 @@ use Rattle.least.specs.Lists.{nthOr, lastOr, onLast}
 use Rattle.least.proofs.Lists.{and-iff}
 use Rattle.text.specs.Bytes.{Line, linesOf}
 use Rattle.refusal.specs.Questions.Answer.{answered}
-use Rattle.refusal.proofs.Questions.{allYes}
+use Rattle.refusal.specs.FirstNo.{allYes}
 use Rattle.scan.specs.Line.{lineIsGood}
 use Rattle.records.specs.Records.{Record, recordIn}
 use Rattle.records.specs.Records.Record.{part, task, lock, end, noRecord}
 use Rattle.plan_file.specs.Above.{FilePart, Above, noPart, nothingAbove, partsAfter, after}
 use Rattle.plan_file.specs.Reading.{isPart, isEnd, allowedHere, partQuestions, taskQuestions, lockQuestions, recordQuestions, questionsAt, readFile}
 use Rattle.plan_file.specs.PartLines.{ownLines, linesByPart, linesOfPart}
-use Rattle.plan_file.proofs.Reading.{said, AllYes, yes-first, yes-rest, read-answered-iff}
+use Rattle.plan_file.specs.Statement.{said, AllYes}
+use Rattle.plan_file.proofs.Reading.{yes-first, yes-rest, read-answered-iff}
 use Rattle.plan_file.proofs.SeenLast.{on-last-snoc}
 
 unfoldable pub partWith : FilePart → Record → FilePart

@@ -1,6 +1,4 @@
 -- Questions 1 to 9 in their order, in the paper's words: when a file is refused, with which refusal and where, and when it is answered.
---   said a ls     == what the lines up to the last of ls say, where a is what the lines above them say
---   AllYes n a ls == every question of every one of these lines has the answer yes; the first of them has the number n
 -- Assumes nothing.
 use Prim.Native.Nat.{ℕ, suc, _+_, _≤_, _<_}
 use native.Mathlib.Nat.{add-zero}
@@ -19,22 +17,17 @@ use Rattle.refusal.specs.declared.Refusal.the-variants.{FileTooLong, Misplaced}
 use Rattle.refusal.specs.declared.Outcome.{Outcome}
 use Rattle.refusal.specs.declared.Outcome.the-variants.{Done, Refused}
 use Rattle.refusal.specs.Limits.{fileLimit}
-use Rattle.refusal.specs.Questions.{firstNo, Answer, whenDone}
+use Rattle.refusal.specs.Questions.{firstNo, whenDone}
 use Rattle.refusal.specs.Questions.Answer.{answered, refused}
 use Rattle.refusal.proofs.Answers.{answered-not-refused, answered-same, refused-same}
-use Rattle.refusal.proofs.Questions.{allYes, FirstNo, refused-iff, done-iff}
+use Rattle.refusal.specs.FirstNo.{allYes}
+use Rattle.refusal.proofs.Questions.{refused-iff, done-iff}
 use Rattle.scan.specs.Line.{lineIsGood}
 use Rattle.records.specs.Records.{Record, recordIn}
 use Rattle.plan_file.specs.Above.{FilePart, Above, nothingAbove, after}
 use Rattle.plan_file.specs.Reading.{isEnd, recordQuestions, questionsAt, readLines, readFile}
-
-unfoldable pub said : Above → List Line → Above
-said a [] = a
-said a (l ∷ ls) = said (after a (recordIn l)) ls
-
-abbrev pub AllYes : ℕ → Above → List Line → Type 0
-AllYes n a ls =
-    (above : List Line) (l : Line) (behind : List Line) → ls ≡ above ++ (l ∷ behind) → allYes (questionsAt (n + length above) (said a above) l) ≡ true
+use Rattle.plan_file.specs.Statement.{said, AllYes, StopsAt, RefusedAt, AnsweredBy}
+use Rattle.plan_file.specs.Statement.RefusedAt.{too-long, on-line, run-out}
 
 -- no line, one line more at the front
 yes-none : (n : ℕ) (a : Above) → AllYes n a []
@@ -97,15 +90,6 @@ read-past n a (l ∷ ls) behind p =
     let m : n + suc (length ls) ≡ suc n + length ls = omega arith in
     rw m (read-next n a l (ls ++ behind) (done-iff (questionsAt n a l) .1 (yes-first n a l ls p)) ∙ read-past (suc n) (after a (recordIn l)) ls behind (yes-rest n a l ls p))
 
--- the line with the first no
-pub record StopsAt (n : ℕ) (a : Above) (ls : List Line) (r : Refusal) : Type 0 where
-  pub before : List Line
-  pub line : Line
-  pub behind : List Line
-  pub lines : ls ≡ before ++ (line ∷ behind)
-  pub yes : AllYes n a before
-  pub no : FirstNo (questionsAt (n + length before) (said a before) line) r
-
 stops-here : (n : ℕ) (a : Above) (l : Line) (ls : List Line) (r : Refusal) → firstNo (questionsAt n a l) ≡ Refused r → StopsAt n a (l ∷ ls) r
 unfolding said
 stops-here n a l ls r e = record { before = []; line = l; behind = ls; lines = refl; yes = yes-none n a; no = rw add-zero (refused-iff (questionsAt n a l) r .0 e) }
@@ -128,18 +112,6 @@ passed n a (l ∷ ls) = go (firstNo (questionsAt n a l)) refl (passed (suc n) (a
     go Done e (inl p) = inl (yes-more n a l ls (done-iff (questionsAt n a l) .0 e) p)
     go Done e (inr d) = inr (d .0, stops-later n a l ls (d .0) (done-iff (questionsAt n a l) .0 e) (d .1))
     go (Refused r) e k = inr (r, stops-here n a l ls r e)
-
--- the ways in which a file is refused: it is too long; a line has a no; or it runs out before `end`
-pub data RefusedAt (s : List ℕ) (r : Refusal) : Type 0 where
-  too-long : fileLimit < length s → r ≡ FileTooLong → RefusedAt s r
-  on-line : length s ≤ fileLimit → StopsAt 1 nothingAbove (linesOf s) r → RefusedAt s r
-  run-out : length s ≤ fileLimit → AllYes 1 nothingAbove (linesOf s) → isEnd (said nothingAbove (linesOf s) .directly) ≡ false → r ≡ Misplaced (1 + length (linesOf s)) → RefusedAt s r
-
-pub record AnsweredBy (s : List ℕ) (ps : List FilePart) : Type 0 where
-  pub fits : length s ≤ fileLimit
-  pub yes : AllYes 1 nothingAbove (linesOf s)
-  pub ended : isEnd (said nothingAbove (linesOf s) .directly) ≡ true
-  pub are : said nothingAbove (linesOf s) .parts ≡ ps
 
 read-long : (s : List ℕ) → fileLimit < length s → readFile s ≡ refused FileTooLong
 unfolding readFile firstNo whenDone

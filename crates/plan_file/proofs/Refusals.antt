@@ -14,13 +14,14 @@ use Rattle.refusal.specs.declared.Refusal.{Refusal}
 use Rattle.refusal.specs.Number.{refusalNumber}
 use Rattle.refusal.specs.Questions.{Question, ask}
 use Rattle.refusal.specs.Questions.Answer.{refused}
-use Rattle.refusal.proofs.Questions.{FirstNo}
+use Rattle.refusal.specs.FirstNo.{FirstNo}
 use Rattle.records.specs.Records.{Record, recordIn}
 use Rattle.records.specs.Records.Record.{part, task, lock, end, noRecord}
 use Rattle.plan_file.specs.Above.{Above}
 use Rattle.plan_file.specs.Reading.{partQuestions, taskQuestions, lockQuestions, recordQuestions, questionsAt, readFile}
-use Rattle.plan_file.proofs.Reading.{RefusedAt, read-refused-iff}
-use Rattle.plan_file.proofs.Reading.RefusedAt.{too-long, on-line, run-out}
+use Rattle.plan_file.specs.Statement.{RefusedAt}
+use Rattle.plan_file.proofs.Reading.{read-refused-iff}
+use Rattle.plan_file.specs.Statement.RefusedAt.{too-long, on-line, run-out}
 
 abbrev toNine : Question → Bool
 toNine q = leb (refusalNumber (q .refusal)) 9

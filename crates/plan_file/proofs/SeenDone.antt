@@ -15,7 +15,8 @@ use Rattle.refusal.specs.declared.Outcome.the-variants.{Done}
 use Rattle.refusal.specs.declared.Refusal.the-variants.{FileTooLong, Misplaced}
 use Rattle.refusal.specs.Limits.{numberLimit}
 use Rattle.refusal.specs.Questions.{Question, ask, firstNo}
-use Rattle.refusal.proofs.Questions.{allYes, done-iff}
+use Rattle.refusal.specs.FirstNo.{allYes}
+use Rattle.refusal.proofs.Questions.{done-iff}
 use Rattle.fields.specs.Fields.{isName, leadingZero, isNumber}
 use Rattle.plan_file.specs.Reading.{partQuestions, taskQuestions, lockQuestions}
 

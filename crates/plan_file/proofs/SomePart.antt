@@ -10,7 +10,8 @@ use Rattle.least.proofs.Lists.{and-iff}
 use Rattle.refusal.specs.declared.Outcome.the-variants.{Done}
 use Rattle.refusal.specs.Questions.{firstNo}
 use Rattle.refusal.specs.Questions.Answer.{answered}
-use Rattle.refusal.proofs.Questions.{allYes, done-iff}
+use Rattle.refusal.specs.FirstNo.{allYes}
+use Rattle.refusal.proofs.Questions.{done-iff}
 use Rattle.records.specs.Records.{Record}
 use Rattle.records.specs.Records.Record.{part, task, lock, end, noRecord}
 use Rattle.plan_file.specs.Above.{Above, FilePart, after, partsAfter}

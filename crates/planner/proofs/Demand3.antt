@@ -89,8 +89,8 @@ module _ (ps : List FilePart) where
       greatest = λ rs c k h. shares-greatest rs k h;
     }
 
-pub plan-demand3 : Demand3 planOf
-plan-demand3 s ps e = go (everyKept ps) refl (some passesSystem (keptChoices ps)) refl
+pub demand-3 : Demand3 planOf
+demand-3 s ps e = go (everyKept ps) refl (some passesSystem (keptChoices ps)) refl
   where
     go : (b : Bool) → everyKept ps ≡ b → (c : Bool) → some passesSystem (keptChoices ps) ≡ c → Planning planOf s ps
     go false p c q = refusing _ (ten (no-budget-at-first ps p)) (λ room. plan-parts s ps room e ∙ refused-10 ps room p)

@@ -2,3 +2,4 @@ pub mod Local
 pub mod Demand3
 pub mod Exactly
 pub mod Short
+pub mod Demands

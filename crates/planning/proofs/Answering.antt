@@ -24,7 +24,8 @@ use Rattle.refusal.specs.Limits.{rowLimit}
 use Rattle.refusal.specs.Questions.{Question, Answer, firstNo, whenAnswered, whenDone}
 use Rattle.refusal.specs.Questions.Answer.{answered, refused}
 use Rattle.refusal.proofs.Answers.{done-not-refused}
-use Rattle.refusal.proofs.Questions.{allYes, done-iff, yes-next, no-answers}
+use Rattle.refusal.specs.FirstNo.{allYes}
+use Rattle.refusal.proofs.Questions.{done-iff, yes-next, no-answers}
 use Rattle.load.specs.declared.Row.{Row}
 use Rattle.load.specs.declared.Rows.{Rows}
 use Rattle.load.specs.declared.Weighed.{Weighed}

@@ -14,7 +14,8 @@ use Rattle.least.proofs.Lists.{map-iff, every-all}
 use Rattle.least.proofs.Fraction.{finite-below}
 use Rattle.refusal.specs.declared.Outcome.the-variants.{Done}
 use Rattle.refusal.specs.Limits.{numberLimit, rowLimit}
-use Rattle.refusal.proofs.Questions.{allYes, done-iff}
+use Rattle.refusal.specs.FirstNo.{allYes}
+use Rattle.refusal.proofs.Questions.{done-iff}
 use Rattle.task_set.specs.declared.Task.{Task}
 use Rattle.budget.proofs.Passing.{budget-iff}
 use Rattle.candidates.proofs.Shown.{deadlines-holding}

@@ -3,21 +3,15 @@
 -- Assumes nothing.
 use mathlib.Core.Path.{_≡_, refl, sym, ap, _∙_}
 use mathlib.Core.Bool.{Bool, true, false, _&&_, false≢true}
-use mathlib.Core.Logic.{_↔_}
+use mathlib.Core.Logic.{_⊎_, inl, inr, _↔_}
 use mathlib.Core.List.{List, [], _∷_, _++_}
 use Rattle.refusal.specs.declared.Refusal.{Refusal}
+use Rattle.refusal.specs.declared.Outcome.{Outcome}
 use Rattle.refusal.specs.declared.Outcome.the-variants.{Done, Refused}
-use Rattle.refusal.specs.Questions.{Question, ask, firstNo}
-use Rattle.refusal.proofs.Answers.{done-not-refused, same-refusal}
-
--- every answer is yes
-unfoldable pub allYes : List Question → Bool
-allYes [] = true
-allYes (q ∷ qs) = q .yes && allYes qs
-
--- a question with the refusal r has the answer no, and those before it have yes
-abbrev pub FirstNo : List Question → Refusal → Type 0
-FirstNo qs r = (before : List Question) × (after : List Question) × (qs ≡ before ++ (ask r false ∷ after)) × (allYes before ≡ true)
+use Rattle.refusal.specs.Questions.{Question, Answer, ask, firstNo, whenDone}
+use Rattle.refusal.specs.Questions.Answer.{answered, refused}
+use Rattle.refusal.specs.FirstNo.{allYes, FirstNo}
+use Rattle.refusal.proofs.Answers.{done-not-refused, same-refusal, answered-not-refused, refused-same}
 
 -- a yes is passed over, a no is answered
 pub yes-next : (q : Question) (qs : List Question) → q .yes ≡ true → firstNo (q ∷ qs) ≡ firstNo qs
@@ -76,3 +70,47 @@ done-all (q ∷ qs) h = go (q .yes) refl (done-all qs)
 
 pub done-iff : (qs : List Question) → (firstNo qs ≡ Done) ↔ (allYes qs ≡ true)
 done-iff qs = (done-all qs, all-done qs)
+
+-- the first no is that of the first question, or of one behind it
+first-or-later : (q : Question) (qs : List Question) (r : Refusal) → FirstNo (q ∷ qs) r → (r ≡ q .refusal) ⊎ FirstNo qs r
+first-or-later q qs r f = go (q .yes) refl
+  where
+    e : firstNo (q ∷ qs) ≡ Refused r
+    e = refused-iff (q ∷ qs) r .1 f
+
+    go : (t : Bool) → q .yes ≡ t → (r ≡ q .refusal) ⊎ FirstNo qs r
+    go true p = inr (refused-iff qs r .0 (sym (yes-next q qs p) ∙ e))
+    go false p = inl (same-refusal (sym e ∙ no-answers q qs p))
+
+pub only-first : (q : Question) (r : Refusal) → FirstNo (q ∷ []) r → r ≡ q .refusal
+only-first q r f = go (first-or-later q [] r f)
+  where
+    go : (r ≡ q .refusal) ⊎ FirstNo [] r → r ≡ q .refusal
+    go (inl e) = e
+    go (inr g) = absurd (done-not-refused (done-none ∙ refused-iff [] r .1 g))
+
+pub first-of-two : (q p : Question) (r : Refusal) → FirstNo (q ∷ p ∷ []) r → (r ≡ q .refusal) ⊎ (r ≡ p .refusal)
+first-of-two q p r f = go (first-or-later q (p ∷ []) r f)
+  where
+    go : (r ≡ q .refusal) ⊎ FirstNo (p ∷ []) r → (r ≡ q .refusal) ⊎ (r ≡ p .refusal)
+    go (inl e) = inl e
+    go (inr g) = inr (only-first p r g)
+
+pub first-of-three : (q p o : Question) (r : Refusal) → FirstNo (q ∷ p ∷ o ∷ []) r → (r ≡ q .refusal) ⊎ ((r ≡ p .refusal) ⊎ (r ≡ o .refusal))
+first-of-three q p o r f = go (first-or-later q (p ∷ o ∷ []) r f)
+  where
+    go : (r ≡ q .refusal) ⊎ FirstNo (p ∷ o ∷ []) r → (r ≡ q .refusal) ⊎ ((r ≡ p .refusal) ⊎ (r ≡ o .refusal))
+    go (inl e) = inl e
+    go (inr g) = inr (first-of-two p o r g)
+
+-- an answer behind questions is refused by them
+pub asked-iff : {A : Type 0} (qs : List Question) (a : A) (r : Refusal) → (whenDone (firstNo qs) (answered a) ≡ refused r) ↔ FirstNo qs r
+unfolding whenDone
+asked-iff {A} qs a r = ((λ e. refused-iff qs r .0 (go (firstNo qs) e)), λ f. ap (λ (o : Outcome). whenDone o (answered a)) (refused-iff qs r .1 f) ∙ refused-is)
+  where
+    refused-is : _≡_ {A = Answer A} (whenDone (Refused r) (answered a)) (refused r)
+    refused-is = refl
+
+    go : (o : Outcome) → whenDone o (answered a) ≡ refused r → o ≡ Refused r
+    go Done e = absurd (answered-not-refused e)
+    go (Refused x) e = ap Refused (refused-same e)
