@@ -1,5 +1,5 @@
-// The kept list of every part of each file that the arguments name, one part a line: the file, the part's number, the number and the place of the
-// answer, then the pairs Q,X. 'stdout' has what the figures of the documents say.
+// The kept list of every part of each file that the arguments name, one part a line: the file, the part's number and name, the number and the place of
+// the answer, then the pairs Q,X. 'stdout' has what the figures of the documents say.
 use candidates::Kept;
 use libc::STDOUT_FILENO;
 
@@ -30,6 +30,8 @@ fn print_part(name: &[u8], file: &[u8], part: usize) -> bool {
     io::write_all(STDOUT_FILENO, name);
     io::write_all(STDOUT_FILENO, b"\t");
     io::print_decimal(STDOUT_FILENO, part as u64);
+    io::write_all(STDOUT_FILENO, b"\t");
+    io::write_all(STDOUT_FILENO, planner::name(file, part));
     io::write_all(STDOUT_FILENO, b"\t");
     io::print_decimal(STDOUT_FILENO, number);
     io::write_all(STDOUT_FILENO, b"\t");
