@@ -2,7 +2,7 @@
 -- Assumes nothing.
 use Prim.Native.Nat.{ℕ, zero, suc, _-_, _≤_, _<_}
 use native.Mathlib.Omega.{arith}
-use mathlib.Core.Path.{_≡_, refl, ap, _∙_}
+use mathlib.Core.Path.{_≡_, refl, sym, ap, _∙_}
 use mathlib.Core.Bool.{true, false, _&&_}
 use mathlib.Core.List.{List}
 use borrow.Author.Tests.{leb-true}
@@ -12,8 +12,11 @@ use Rattle.least.specs.Lists.{nthOr}
 use Rattle.least.proofs.Lists.{nth-get, and-iff}
 use Rattle.refusal.specs.declared.Refusal.{Refusal}
 use Rattle.refusal.specs.declared.Refusal.the-variants.{BadHandSet}
-use Rattle.refusal.specs.Questions.{whenAnswered, whenDone, firstNo}
+use Rattle.refusal.specs.declared.Outcome.the-variants.{Done}
+use Rattle.refusal.specs.Questions.{outcomeOf, whenAnswered, whenDone, firstNo}
 use Rattle.refusal.specs.Questions.Answer.{answered, refused}
+use Rattle.refusal.proofs.Answers.{done-not-refused, same-refusal}
+use Rattle.scan.specs.declared.Span.{Span}
 use Rattle.scan.specs.Scan.{bytesOf}
 use Rattle.plan_file.specs.Above.{noPart}
 use Rattle.plan_file.specs.Reading.{readFile}
@@ -21,7 +24,8 @@ use Rattle.reader.specs.declared.PartRead.{PartRead}
 use Rattle.reader.specs.declared.PlanFile.{PlanFile}
 use Rattle.reader.specs.Reader.{ReadPart, numbersOf, partOf}
 use Rattle.reader.proofs.Handed.{Handed, part-handed}
-use Rattle.answers.specs.Answers.{isPartNumber, nameOf}
+use Rattle.answers.specs.Answers.{isPartNumber, nameOf, nameBytes}
+use Rattle.inquiries.specs.Stretch.{noName, StretchIs}
 
 pub name-refused : (s : List ℕ) (k : ℕ) (r : Refusal) → readFile s ≡ refused r → nameOf s k ≡ refused r
 unfolding nameOf whenAnswered
@@ -52,3 +56,20 @@ name-is s (suc j) f h d l u =
 
 pub number-range : (k n : ℕ) → leb 1 k && leb k n ≡ true → (1 ≤ k) × (k ≤ n)
 number-range k n e = let b = and-iff (leb 1 k) (leb k n) .0 e in (leb-true 1 k (b .0), leb-true k n (b .1))
+
+-- what is handed over: a refusal, or the stretch of the name
+pub stretch-refused : (s : List ℕ) (k : ℕ) (r : Refusal) → nameOf s k ≡ refused r → StretchIs s k (noName r)
+unfolding noName outcomeOf nameBytes bytesOf
+stretch-refused s k r e = record {
+  outcome = sym (ap outcomeOf e);
+  bytes = sym (ap nameBytes e);
+  refusal = λ x h. ap noName (same-refusal h);
+}
+
+pub stretch-given : (s : List ℕ) (k : ℕ) (name : List ℕ) (p : Span) → nameOf s k ≡ answered name → name ≡ bytesOf s p → StretchIs s k (record { outcome = Done; span = p })
+unfolding outcomeOf nameBytes
+stretch-given s k name p e is = record {
+  outcome = sym (ap outcomeOf e);
+  bytes = sym (ap nameBytes e ∙ is);
+  refusal = λ x h. absurd (done-not-refused h);
+}

@@ -4,12 +4,14 @@ use candidates::Kept;
 use candidates::Pair;
 use refusal::Outcome;
 use refusal::Refusal;
+use scan::Span;
 ghost use mathlib.Core.Path.{_≡_};
 ghost use mathlib.Core.Bool.{_&&_};
 ghost use lib.Dec.{leb};
 ghost use Rattle.refusal.specs.Questions.{outcomeOf};
 ghost use Rattle.refusal.specs.Questions.Answer.{refused};
 ghost use Rattle.answers.specs.Answers.{candidatesOf, candidateList, nameOf, nameBytes};
+ghost use Rattle.inquiries.specs.Stretch.{noName, StretchIs};
 
 // Whether a number, counted from 1, is that of one of n parts.
 fn is_part_number(part: usize, n: usize) -> bool
@@ -21,41 +23,60 @@ fn is_part_number(part: usize, n: usize) -> bool
     part <= n
 }
 
-// The outcome of `name`: questions 1 to 9, then 12.
-pub fn name_outcome(file: &[u8], part: usize) -> Outcome
-    ensures { λ r. ⌜ r ≡ outcomeOf (nameOf (now (file .entry)) part) ⌝ }
+// Where the name of a part stands in its file: a stretch of no bytes at 0 on refusal.
+pub struct NameStretch {
+    pub outcome: Outcome,
+    pub span: Span,
+}
+
+fn no_name(r: Refusal) -> NameStretch
+    ensures { λ x. ⌜ x ≡ noName r ⌝ }
+{
+    NameStretch {
+        outcome: Outcome::Refused(r),
+        span: Span { start: 0, len: 0 },
+    }
+}
+
+// The stretch of the name of a part, counted from 1: questions 1 to 9, then 12.
+pub fn name_stretch(file: &[u8], part: usize) -> NameStretch
+    ensures { λ r. ⌜ StretchIs (now (file .entry)) part r ⌝ }
 {
     let f = reader::read_file(file);
     let o = f.outcome;
     match o {
-        Outcome::Refused(r) => Outcome::Refused(r),
+        Outcome::Refused(r) => no_name(r),
         Outcome::Done => {
             if is_part_number(part, f.count) {
-                return Outcome::Done;
+                let k = part - 1;
+                let p = f.parts[k];
+                let span = p.name;
+                return NameStretch {
+                    outcome: Outcome::Done,
+                    span,
+                };
             }
-            Outcome::Refused(Refusal::BadHandSet(0))
+            no_name(Refusal::BadHandSet(0))
         }
     }
+}
+
+// The outcome of `name`.
+pub fn name_outcome(file: &[u8], part: usize) -> Outcome
+    ensures { λ r. ⌜ r ≡ outcomeOf (nameOf (now (file .entry)) part) ⌝ }
+{
+    let n = name_stretch(file, part);
+    let o = n.outcome;
+    o
 }
 
 // The name of a part, counted from 1, as that stretch of the file; empty on refusal.
 pub fn name(file: &[u8], part: usize) -> &[u8]
     ensures { λ r. ⌜ now r ≡ nameBytes (nameOf (now (file .entry)) part) ⌝ }
 {
-    let f = reader::read_file(file);
-    let o = f.outcome;
-    match o {
-        Outcome::Refused(_) => &file[..0],
-        Outcome::Done => {
-            if is_part_number(part, f.count) {
-                let k = part - 1;
-                let p = f.parts[k];
-                let span = p.name;
-                return scan::bytes(file, span);
-            }
-            &file[..0]
-        }
-    }
+    let n = name_stretch(file, part);
+    let span = n.span;
+    scan::bytes(file, span)
 }
 
 fn refused_list(r: Refusal) -> CandidateList

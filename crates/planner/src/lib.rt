@@ -6,6 +6,8 @@ pub use hand_set::supply;
 pub use inquiries::candidates;
 pub use inquiries::name;
 pub use inquiries::name_outcome;
+pub use inquiries::name_stretch;
+pub use inquiries::NameStretch;
 pub use load::Weighed;
 pub use load::weigh;
 pub use planning::plan;
