@@ -1,5 +1,7 @@
 //! The planner's own library, called through its C interface (crates/planner_c).
 
+use std::ops::Range;
+
 use crate::local::Pair;
 use crate::system::{Bound, Row, Weighing};
 use crate::Refusal;
@@ -63,8 +65,17 @@ struct SupplyAnswer {
     ticks: u64,
 }
 
+#[repr(C)]
+struct NameAnswer {
+    number: u64,
+    place: u64,
+    start: usize,
+    length: usize,
+}
+
 extern "C" {
     fn planner_plan(file: *const u8, length: usize, out: *mut u8, room: usize) -> PlanAnswer;
+    fn planner_name(file: *const u8, length: usize, part: usize) -> NameAnswer;
     fn planner_weigh(rows: CRows) -> WeighAnswer;
     fn planner_candidates(file: *const u8, length: usize, part: usize) -> CandidatesAnswer;
     fn planner_supply(period: u64, budget: u64, time: u64) -> SupplyAnswer;
@@ -88,6 +99,17 @@ pub fn plan(file: &[u8], out: &mut [u8]) -> Result<usize, Refusal> {
     }
     assert_eq!(answer.place, 0);
     Ok(answer.written)
+}
+
+/// The stretch of the file that is the name of the part, parts counted from 1.
+pub fn name(file: &[u8], part: usize) -> Result<Range<usize>, Refusal> {
+    // SAFETY: the pointer and the length are those of the slice, which the call only reads.
+    let answer = unsafe { planner_name(file.as_ptr(), file.len(), part) };
+    if let Some(refusal) = refusal(answer.number, answer.place) {
+        assert_eq!((answer.start, answer.length), (0, 0));
+        return Err(refusal);
+    }
+    Ok(answer.start..answer.start + answer.length)
 }
 
 /// Weighs rows set by hand; behind the sixteenth only their count is handed over.

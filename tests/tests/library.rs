@@ -5,7 +5,9 @@ use std::path::Path;
 
 use reference::random::{self, Random, Sizes};
 use reference::system::Row;
-use reference::{candidates, cases, library, plan, supply_answer, weigh, Refusal, PROGRAM_ROOM};
+use reference::{
+    candidates, cases, library, name, plan, supply_answer, weigh, Refusal, PROGRAM_ROOM,
+};
 
 /// Every part number of a file of up to 16 parts, and some that no part has.
 fn part_numbers(random: &mut Random) -> impl Iterator<Item = usize> {
@@ -19,6 +21,11 @@ fn same_candidates(random: &mut Random, file: &[u8]) {
         assert_eq!(
             library::candidates(file, part),
             candidates(file, part),
+            "part {part} of\n{text}"
+        );
+        assert_eq!(
+            library::name(file, part),
+            name(file, part),
             "part {part} of\n{text}"
         );
     }
@@ -46,9 +53,16 @@ fn same_plan(file: &[u8], room: usize) -> Result<usize, Refusal> {
 
 /// The plan in every room up to two bytes more than its listing has.
 fn same_in_every_room(file: &[u8]) {
-    if let Ok(length) = same_plan(file, PROGRAM_ROOM) {
-        for room in 0..length + 3 {
-            assert_eq!(same_plan(file, room).is_ok(), length <= room);
+    match same_plan(file, PROGRAM_ROOM) {
+        Ok(length) => {
+            for room in 0..length + 3 {
+                assert_eq!(same_plan(file, room).is_ok(), length <= room);
+            }
+        }
+        Err(refusal) => {
+            for room in 0..3 {
+                assert_eq!(same_plan(file, room), Err(refusal));
+            }
         }
     }
 }

@@ -6,7 +6,7 @@ ghost use mathlib.Core.Path.{_≡_};
 ghost use lib.ListN.{length};
 ghost use Rattle.load.specs.Weigh.{weighRows};
 ghost use Rattle.answers.specs.Answers.{planOf, planned, bufferAfter, candidatesOf, candidateList, supplyAnswer, supplied};
-ghost use Rattle.planner_c.specs.Exported.{planExported, candidatesExported, weighExported, supplyExported};
+ghost use Rattle.planner_c.specs.Exported.{planExported, candidatesExported, NameExported, weighExported, supplyExported};
 
 #[repr(C)]
 pub struct PlanAnswer {
@@ -46,6 +46,29 @@ pub extern "C" fn planner_candidates(file: &[u8], part: usize) -> CandidatesAnsw
         number: refusal::number(o),
         place: refusal::place(o),
         kept,
+    }
+}
+
+#[repr(C)]
+pub struct NameAnswer {
+    pub number: u64,
+    pub place: u64,
+    pub start: usize,
+    pub length: usize,
+}
+
+#[no_mangle]
+pub extern "C" fn planner_name(file: &[u8], part: usize) -> NameAnswer
+    ensures { λ r. ⌜ NameExported (now (file .entry)) part r ⌝ }
+{
+    let a = planner::name_stretch(file, part);
+    let o = a.outcome;
+    let span = a.span;
+    NameAnswer {
+        number: refusal::number(o),
+        place: refusal::place(o),
+        start: span.start,
+        length: span.len,
     }
 }
 
