@@ -252,6 +252,54 @@ pub fn damaged(random: &mut Random, file: &[u8]) -> Vec<u8> {
     bytes
 }
 
+/// The file with numbers at or near the limits: periods of a tick or of 65,535, deadlines at the
+/// execution time, locks held all the time. Readable if the file was.
+pub fn extreme(random: &mut Random, file: &[u8]) -> Vec<u8> {
+    let text = String::from_utf8_lossy(file);
+    let mut out = String::new();
+    let mut cost = 1;
+    for line in text.lines() {
+        let fields: Vec<&str> = line.split('\t').collect();
+        match fields[..] {
+            ["part", name, period] => {
+                let period = near_a_limit(random, period.parse().unwrap_or(1));
+                out += &format!("part\t{name}\t{period}\n");
+            }
+            ["task", name, separation, time, deadline] => {
+                let number = |field: &str| field.parse().unwrap_or(1);
+                let separation = near_a_limit(random, number(separation));
+                cost = near_a_limit(random, number(time)).min(separation);
+                let deadline = match random.index(3) {
+                    0 => cost,
+                    1 => separation,
+                    _ => number(deadline).clamp(cost, separation),
+                };
+                out += &format!("task\t{name}\t{separation}\t{cost}\t{deadline}\n");
+            }
+            ["lock", name, _] => {
+                let held = if random.once_in(2) { 1 } else { cost };
+                out += &format!("lock\t{name}\t{held}\n");
+            }
+            _ => {
+                out += line;
+                out.push('\n');
+            }
+        }
+    }
+    out.into_bytes()
+}
+
+fn near_a_limit(random: &mut Random, number: u64) -> u64 {
+    match random.index(12) {
+        0 => 1,
+        1 => 2,
+        2 => LARGEST_NUMBER,
+        3 => LARGEST_NUMBER - 1,
+        4 => (number * 7).min(LARGEST_NUMBER),
+        _ => number,
+    }
+}
+
 fn damage(random: &mut Random, bytes: &mut Vec<u8>) {
     if bytes.is_empty() {
         return;

@@ -1,7 +1,9 @@
 //! The planner's own library against the reference: the same answer, number and place included.
+//! Seeds are fixed. `ROUNDS=20 cargo test --release --features library --test library` makes up
+//! twenty times as many inputs.
 
-use std::fs;
 use std::path::Path;
+use std::{env, fs};
 
 use reference::random::{self, Random, Sizes};
 use reference::system::Row;
@@ -80,7 +82,13 @@ fn files() -> Vec<Vec<u8>> {
     files
 }
 
-/// Made-up files, each whole and damaged.
+/// As many times this number as the environment asks for.
+fn rounds(number: usize) -> usize {
+    let times = env::var("ROUNDS").ok().and_then(|word| word.parse().ok());
+    number * times.unwrap_or(1)
+}
+
+/// Made-up files, each whole, damaged, and with numbers near the limits.
 fn made_up(random: &mut Random, rounds: usize) -> Vec<Vec<u8>> {
     let sizes = [
         Sizes::one_part(),
@@ -92,6 +100,7 @@ fn made_up(random: &mut Random, rounds: usize) -> Vec<Vec<u8>> {
     for round in 0..rounds {
         let file = random::valid(random, &sizes[round % sizes.len()]);
         files.push(random::damaged(random, &file));
+        files.push(random::extreme(random, &file));
         files.push(file);
     }
     files
@@ -107,7 +116,7 @@ fn plans_of_the_cases_and_the_bench_files() {
 #[test]
 fn plans_of_made_up_files() {
     let random = &mut Random::new(4);
-    let files = made_up(random, 2000);
+    let files = made_up(random, rounds(2000));
     let planned = files
         .iter()
         .filter(|file| same_plan(file, PROGRAM_ROOM).is_ok());
@@ -117,7 +126,11 @@ fn plans_of_made_up_files() {
 #[test]
 fn plans_in_every_room() {
     let random = &mut Random::new(5);
-    for file in files().iter().step_by(8).chain(&made_up(random, 40)) {
+    for file in files()
+        .iter()
+        .step_by(8)
+        .chain(&made_up(random, rounds(40)))
+    {
         same_in_every_room(file);
     }
 }
@@ -133,7 +146,7 @@ fn candidates_of_the_cases_and_the_bench_files() {
 #[test]
 fn candidates_of_made_up_files() {
     let random = &mut Random::new(2);
-    for file in made_up(random, 400) {
+    for file in made_up(random, rounds(400)) {
         same_candidates(random, &file);
     }
 }
@@ -142,7 +155,7 @@ fn candidates_of_made_up_files() {
 fn rows_set_by_hand() {
     let random = &mut Random::new(6);
     let edges = [0, 1, 2, 65_534, 65_535, 65_536, 1 << 32, u64::MAX];
-    for _ in 0..20_000 {
+    for _ in 0..rounds(20_000) {
         let longest = [20, 1000, 65_535][random.index(3)];
         let mut rows: Vec<Row> = random::rows(random, 16, longest)
             .into_iter()
@@ -179,7 +192,7 @@ fn supplies_at_and_past_the_limits() {
             }
         }
     }
-    for _ in 0..200_000 {
+    for _ in 0..rounds(200_000) {
         let p = random.within(1..=65_535);
         let q = random.within(0..=p);
         let t = random.within(0..=65_536);
