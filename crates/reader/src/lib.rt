@@ -92,12 +92,11 @@ pub fn read_file(s: &[u8]) -> PlanFile
         let line = c.line;
         match c.next(s) {
             Next::Over => {
-                let names = seen.parts;
                 if seen.ended {
                     return PlanFile {
                         outcome: Outcome::Done,
                         parts: all,
-                        count: names.count,
+                        count: seen.parts.count,
                     };
                 }
                 return refused_file(Refusal::Misplaced(line));
@@ -106,18 +105,16 @@ pub fn read_file(s: &[u8]) -> PlanFile
                 return refused_file(Refusal::BadLine(line));
             }
             Next::Record(shape, next) => {
-                let ts = seen.tasks;
-                let ls = seen.locks;
-                let n = ts.count;
+                let n = seen.tasks.count;
                 match questions::entry_at(s, line, seen, shape) {
                     Entry::Refused(r) => {
                         return refused_file(r);
                     }
                     Entry::Part(new_name, new_period) => {
-                        let ps = seen.parts;
+                        let ls = seen.locks;
                         let done = closed_part(name, period, tasks, n, ls);
                         all[open] = done;
-                        open = ps.count;
+                        open = seen.parts.count;
                         name = new_name;
                         period = new_period;
                         tasks = [no_one; 16];
@@ -143,6 +140,7 @@ pub fn read_file(s: &[u8]) -> PlanFile
                         c = next;
                     }
                     Entry::End => {
+                        let ls = seen.locks;
                         let done = closed_part(name, period, tasks, n, ls);
                         all[open] = done;
                         seen = plan_file::seen_end(seen);

@@ -39,16 +39,16 @@ file l = l .before .before .before .before .before .before .before .args .s .now
 
 -- a record was entered: where the turn began, what stands there, and what the entry is
 abbrev at : tie.After-entry-at Inv-loop μ-loop → tie.At-loop Inv-loop μ-loop
-at e = e .before .before .before .before .before .before .before
+at e = e .before .before .before .before .before
 
 abbrev shape : tie.After-entry-at Inv-loop μ-loop → Shape
-shape e = e .before .before .before .before .shape .given .0 .0
+shape e = e .before .before .shape .given .0 .0
 
 abbrev behind : tie.After-entry-at Inv-loop μ-loop → Cursor
-behind e = e .before .before .before .before .shape .given .0 .1 .0
+behind e = e .before .before .shape .given .0 .1 .0
 
 record-is : (e : tie.After-entry-at Inv-loop μ-loop) → RecordIs (file (at e)) (at e .loop .c) (shape e) (behind e)
-record-is e = rw (e .before .before .before .before .shape .given .1) at (e .before .before .before .before .before .before .next .ensures)
+record-is e = rw (e .before .before .shape .given .1) at (e .before .before .before .before .next .ensures)
 
 entry-is : (e : tie.After-entry-at Inv-loop μ-loop) → entryOf (file (at e)) (at e .loop .c .line) (at e .loop .seen) (shape e) ≡ e .entry-at .result
 entry-is e = sym (e .entry-at .ensures)
@@ -96,9 +96,9 @@ enum-told c = search needs
 
 returns-2 : tie.Need-returns-2 Inv-loop μ-loop
 returns-2 c =
-    let l = c .before .before .before .before .before in
+    let l = c .before .before .before .before in
     record {
-      value = reading-done (file l) (l .loop .c) (l .loop .seen) (l .loop .«open») (l .loop .name) (l .loop .period) (l .loop .tasks) (l .loop .all) (l .loop .inv) (rw (c .before .before .enum-told .given .1) at (c .before .before .before .before .next .ensures)) (c .if2 .taken);
+      value = reading-done (file l) (l .loop .c) (l .loop .seen) (l .loop .«open») (l .loop .name) (l .loop .period) (l .loop .tasks) (l .loop .all) (l .loop .inv) (rw (c .before .enum-told .given .1) at (c .before .before .before .next .ensures)) (c .if2 .taken);
       few = reading-fine (file l) (l .loop .c) (l .loop .seen) (l .loop .«open») (l .loop .name) (l .loop .period) (l .loop .tasks) (l .loop .all) (l .loop .inv) .parts .few;
       room = l .loop .inv .stands .room;
       counts = λ k h. l .loop .inv .stands .counts k;
@@ -109,9 +109,9 @@ refused-file-requires-2 c κs = search needs
 
 returns-3 : tie.Need-returns-3 Inv-loop μ-loop
 returns-3 c =
-    let l = c .before .before .before .before .before .before in
+    let l = c .before .before .before .before .before in
     refused-is (file l) (Misplaced (l .loop .c .line)) (c .refused-file2 .result) (c .refused-file2 .ensures)
-    (reading-over (file l) (l .loop .c) (l .loop .seen) (l .loop .«open») (l .loop .name) (l .loop .period) (l .loop .tasks) (l .loop .all) (l .loop .inv) (rw (c .before .before .before .enum-told .given .1) at (c .before .before .before .before .before .next .ensures)) (c .before .if2 .left))
+    (reading-over (file l) (l .loop .c) (l .loop .seen) (l .loop .«open») (l .loop .name) (l .loop .period) (l .loop .tasks) (l .loop .all) (l .loop .inv) (rw (c .before .before .enum-told .given .1) at (c .before .before .before .before .next .ensures)) (c .before .if2 .left))
 
 enum-told-2 : tie.Need-enum-told-2 Inv-loop μ-loop
 enum-told-2 c = search needs
@@ -166,7 +166,7 @@ loop-again : tie.Need-loop-again Inv-loop μ-loop
 unfolding pad
 loop-again c =
     let law = reading-part (file (at (c .before .before .before .before .before .before))) (at (c .before .before .before .before .before .before) .loop .c) (at (c .before .before .before .before .before .before) .loop .seen) (at (c .before .before .before .before .before .before) .loop .«open») (at (c .before .before .before .before .before .before) .loop .name) (at (c .before .before .before .before .before .before) .loop .period) (at (c .before .before .before .before .before .before) .loop .tasks) (at (c .before .before .before .before .before .before) .loop .all) (at (c .before .before .before .before .before .before) .loop .inv) (shape (c .before .before .before .before .before .before)) (behind (c .before .before .before .before .before .before)) (record-is (c .before .before .before .before .before .before)) (c .before .before .before .before .new-name .given .0 .0) (c .before .before .before .before .new-name .given .0 .1 .0) (entry-is (c .before .before .before .before .before .before) ∙ c .before .before .before .before .new-name .given .1) in
-    rw (c .seen-part .ensures, c .before .closed-part .ensures, c .before .before .before .before .before .before .before .before .before .before .before .before .before .before .before .no-task .ensures) law
+    rw (c .seen-part .ensures, c .before .closed-part .ensures, c .before .before .before .before .before .before .before .before .before .before .before .before .before .no-task .ensures) law
 
 enum-known-task-name : tie.Need-enum-known-task-name Inv-loop μ-loop
 enum-known-task-name c = search needs
@@ -218,19 +218,19 @@ closed-part-requires-2 : tie.Need-closed-part-requires-2 Inv-loop μ-loop
 closed-part-requires-2 c κs = search needs
 
 mul-all-2 : tie.Need-mul-all-2 Inv-loop μ-loop
-mul-all-2 c = omega (arith, part-at (c .before .before .before))
+mul-all-2 c = omega (arith, part-at (c .before .before .before .before))
 
 array-set-from-all-2 : tie.Need-array-set-from-all-2 Inv-loop μ-loop
-array-set-from-all-2 c = part-at (c .before .before .before)
+array-set-from-all-2 c = part-at (c .before .before .before .before)
 
 seen-end-requires : tie.Need-seen-end-requires Inv-loop μ-loop
 seen-end-requires c κs = search needs
 
 loop-less-4 : tie.Need-loop-less-4 Inv-loop μ-loop
-loop-less-4 c = shorter (c .before .before .before .before)
+loop-less-4 c = shorter (c .before .before .before .before .before)
 
 loop-again-4 : tie.Need-loop-again-4 Inv-loop μ-loop
-loop-again-4 c = rw (c .seen-end .ensures, c .before .closed-part2 .ensures) (reading-end (file (at (c .before .before .before .before))) (at (c .before .before .before .before) .loop .c) (at (c .before .before .before .before) .loop .seen) (at (c .before .before .before .before) .loop .«open») (at (c .before .before .before .before) .loop .name) (at (c .before .before .before .before) .loop .period) (at (c .before .before .before .before) .loop .tasks) (at (c .before .before .before .before) .loop .all) (at (c .before .before .before .before) .loop .inv) (shape (c .before .before .before .before)) (behind (c .before .before .before .before)) (record-is (c .before .before .before .before)) (entry-is (c .before .before .before .before) ∙ c .before .before .enum-told3 .given .1))
+loop-again-4 c = rw (c .seen-end .ensures, c .before .closed-part2 .ensures) (reading-end (file (at (c .before .before .before .before .before))) (at (c .before .before .before .before .before) .loop .c) (at (c .before .before .before .before .before) .loop .seen) (at (c .before .before .before .before .before) .loop .«open») (at (c .before .before .before .before .before) .loop .name) (at (c .before .before .before .before .before) .loop .period) (at (c .before .before .before .before .before) .loop .tasks) (at (c .before .before .before .before .before) .loop .all) (at (c .before .before .before .before .before) .loop .inv) (shape (c .before .before .before .before .before)) (behind (c .before .before .before .before .before)) (record-is (c .before .before .before .before .before)) (entry-is (c .before .before .before .before .before) ∙ c .before .before .before .enum-told3 .given .1))
 
 pub read-file-spec : {M : Type 1} → statement M
 read-file-spec =
