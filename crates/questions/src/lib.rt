@@ -30,46 +30,43 @@ pub fn entry_at(s: &[u8], line: u64, seen: Seen, r: Shape) -> Entry
 {
     let open = !seen.ended;
     let not_fresh = !seen.fresh;
-    let parts = seen.parts;
-    let tasks = seen.tasks;
     match r {
-        Shape::Part { name, period } => part_line::ask_part(
-            s,
-            line,
-            both(open, not_fresh),
-            parts,
-            name,
-            period,
-        ),
+        Shape::Part { name, period } => {
+            let parts = seen.parts;
+            part_line::ask_part(s, line, both(open, not_fresh), parts, name, period)
+        }
         Shape::Task {
             name,
             separation,
             cost,
             deadline,
-        } => task_line::ask_task(
-            s,
-            line,
-            both(open, 1 <= parts.count),
-            tasks,
-            name,
-            separation,
-            cost,
-            deadline,
-        ),
+        } => {
+            let tasks = seen.tasks;
+            task_line::ask_task(
+                s,
+                line,
+                both(open, 1 <= seen.parts.count),
+                tasks,
+                name,
+                separation,
+                cost,
+                deadline,
+            )
+        }
         Shape::Lock { name, held } => {
             let last = seen.last;
             let locks = seen.locks;
             lock_line::ask_lock(
                 s,
                 line,
-                both(open, 1 <= tasks.count),
+                both(open, 1 <= seen.tasks.count),
                 last,
                 locks,
                 name,
                 held,
             )
         }
-        Shape::End => ask_end(line, both(open, both(not_fresh, 1 <= parts.count))),
+        Shape::End => ask_end(line, both(open, both(not_fresh, 1 <= seen.parts.count))),
         Shape::Unknown => Entry::Refused(Refusal::BadRecord(line)),
     }
 }

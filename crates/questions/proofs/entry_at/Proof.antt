@@ -49,11 +49,11 @@ enum-told-2 c = search needs
 
 returns : tie.Need-returns
 unfolding entryOf
-returns c = simp (c .before .before .before .r .given .1) (cc)
+returns c = simp (c .before .before .before .before .r .given .1) (cc)
 
 returns-2 : tie.Need-returns-2
 unfolding entryOf
-returns-2 c = simp (c .before .before .before .before .r2 .given .1) (cc)
+returns-2 c = simp (c .before .before .before .before .before .r2 .given .1) (cc)
 
 returns-3 : tie.Need-returns-3
 unfolding entryOf
