@@ -40,7 +40,7 @@ module _ (rows : List Row) where
   abbrev rightCount : Bool
   rightCount = leb 1 (length rows) && leb (length rows) rowLimit
 
-  wrong-count : rightCount ≡ false → weighOf rows ≡ weighed (Refused (BadHandSet 0)) []
+  pub wrong-count : rightCount ≡ false → weighOf rows ≡ weighed (Refused (BadHandSet 0)) []
   unfolding weighOf weighQuestions
   wrong-count e = refused-any _ rows (no-answers _ _ e)
 

@@ -3,8 +3,10 @@
 --   weighQuestions rows == questions 12 (0 for a wrong row count, else the first bad row) and 13 (first row without a time t)
 --   weighOf rows == the answer, for every list of rows
 --   rowsOf rows  == the rows that the struct `Rows` holds
+--   rowsFrom rows n == these rows in the struct `Rows`, with the count n
 --   weighRows rows == the answer, for every such struct: a count above its sixteen places is a wrong row count too
 -- Assumes nothing.
+use Prim.Native.Nat.{ℕ}
 use mathlib.Core.Bool.{Bool, not, cond, _&&_}
 use mathlib.Core.List.{List, [], _∷_}
 use lib.Dec.{leb}
@@ -20,7 +22,7 @@ use Rattle.refusal.specs.Questions.{Question, ask, firstNo}
 use Rattle.load.specs.declared.Row.{Row}
 use Rattle.load.specs.declared.Rows.{Rows}
 use Rattle.load.specs.declared.Weighed.{Weighed}
-use Rattle.load.specs.Load.{boundsOf, loadOf, loadRow}
+use Rattle.load.specs.Load.{row, boundsOf, loadOf, loadRow}
 
 unfoldable pub rowInRange : Row → Bool
 rowInRange r = leb 1 (r .budget) && (leb (r .budget) (r .period) && (leb (r .period) numberLimit && leb (r .holding) numberLimit))
@@ -45,6 +47,9 @@ weighOf rows = weighed (firstNo (weighQuestions rows)) rows
 
 unfoldable pub rowsOf : Rows → List Row
 rowsOf rows = take (rows .count) (rows .rows)
+
+abbrev pub rowsFrom : List Row → ℕ → Rows
+rowsFrom rows n = record { rows = pad rowLimit (row 0 0 0) rows; count = n }
 
 unfoldable pub weighRows : Rows → Weighed
 weighRows rows = cond (leb (rows .count) rowLimit) (weighOf (rowsOf rows)) (weighed (Refused (BadHandSet 0)) [])

@@ -21,6 +21,7 @@ use Rattle.refusal.proofs.Questions.{yes-next, no-answers}
 use Rattle.load.specs.declared.Row.{Row}
 use Rattle.load.specs.declared.Rows.{Rows}
 use Rattle.load.specs.Load.{row, passesSystem}
+use Rattle.load.specs.Weigh.{rowsFrom}
 use Rattle.load.specs.ByColumn.{rowAt, rowsBy}
 use Rattle.selection.specs.declared.Choice.{Choice}
 use Rattle.selection.specs.Selection.{choices, leastLoaded}
@@ -29,7 +30,7 @@ use Rattle.reader.specs.declared.PlanFile.{PlanFile}
 use Rattle.offers.specs.declared.Offers.{Offers}
 use Rattle.offers.specs.declared.PlanRows.{PlanRows}
 use Rattle.offers.specs.Gathered.{listIn, FineParts, Gathered}
-use Rattle.offers.specs.Least.{partRows, rowsIn, rowsFrom, noRows, choiceQuestions, planRowsWhen, planRowsOf}
+use Rattle.offers.specs.Least.{partRows, rowsIn, noRows, choiceQuestions, planRowsWhen, planRowsOf}
 use Rattle.offers.proofs.Rows.{offers-are}
 
 -- the rows of a choice, put into the array one after another

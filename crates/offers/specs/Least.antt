@@ -1,7 +1,6 @@
 -- Questions 10 and 11, and the rows of least load, of a file that was read.
 --   partRows f k     == the kept pairs of the part at the place k as rows
 --   rowsIn f         == those of each part, in file order
---   rowsFrom rows n  == these rows in the struct `Rows`, with their count
 --   noRows r         == the refusal r, and no rows
 --   choiceQuestions kept == questions 10 and 11, where the parts offer the rows `kept`
 --   planRowsOf f     == the rows of least load, or the first no among 10 and 11
@@ -10,15 +9,15 @@ use Prim.Native.Nat.{ℕ}
 use mathlib.Core.Bool.{not}
 use mathlib.Core.List.{List, [], _∷_, map}
 use lib.ListN.{length}
-use Rattle.least.specs.Lists.{isEmpty, every, some, firstOf, countFrom, pad}
+use Rattle.least.specs.Lists.{isEmpty, every, some, firstOf, countFrom}
 use Rattle.refusal.specs.declared.Refusal.{Refusal}
 use Rattle.refusal.specs.declared.Refusal.the-variants.{NoBudget, NoChoice}
 use Rattle.refusal.specs.declared.Outcome.{Outcome}
 use Rattle.refusal.specs.declared.Outcome.the-variants.{Done, Refused}
 use Rattle.refusal.specs.Questions.{Question, ask, firstNo}
 use Rattle.load.specs.declared.Row.{Row}
-use Rattle.load.specs.declared.Rows.{Rows}
 use Rattle.load.specs.Load.{row, passesSystem}
+use Rattle.load.specs.Weigh.{rowsFrom}
 use Rattle.selection.specs.Selection.{choices, leastLoaded}
 use Rattle.reader.specs.declared.PlanFile.{PlanFile}
 use Rattle.offers.specs.declared.PlanRows.{PlanRows}
@@ -29,9 +28,6 @@ partRows f k = map (λ c. row (partIn f k .period) (c .budget) (c .holding)) (li
 
 unfoldable pub rowsIn : PlanFile → List (List Row)
 rowsIn f = map (partRows f) (countFrom 0 (f .count))
-
-abbrev pub rowsFrom : List Row → ℕ → Rows
-rowsFrom rows n = record { rows = pad 16 (row 0 0 0) rows; count = n }
 
 abbrev pub noRows : Refusal → PlanRows
 noRows r = record { outcome = Refused r; rows = rowsFrom [] 0 }

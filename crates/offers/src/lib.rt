@@ -9,8 +9,9 @@ ghost use mathlib.Core.Path.{_≡_};
 ghost use Prim.Native.Nat.{_≤_, _<_};
 ghost use lib.ListN.{length};
 ghost use Rattle.load.specs.ByColumn.{rowsBy, FineColumns};
+ghost use Rattle.load.specs.Weigh.{rowsFrom};
 ghost use Rattle.offers.specs.Gathered.{FineParts, budgetIn, holdingIn, Stored, Gathered};
-ghost use Rattle.offers.specs.Least.{rowsFrom, noRows, planRowsOf};
+ghost use Rattle.offers.specs.Least.{noRows, planRowsOf};
 
 // The pairs of the part k at its places.
 fn store(kept: Kept, k: usize, budgets: &mut [u64], holdings: &mut [u64])

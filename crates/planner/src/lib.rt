@@ -1,8 +1,9 @@
-// The five operations, and what they answer: plan, candidates, name with its outcome, weigh and supply.
+// The five operations, and what they answer: plan, candidates, name with its outcome and its place, weigh (by value and over a lent slice) and supply.
 pub use answers::CandidateList;
 pub use answers::Planned;
 pub use answers::Supplied;
 pub use hand_set::supply;
+pub use hand_set::weigh_slice;
 pub use inquiries::NameStretch;
 pub use inquiries::candidates;
 pub use inquiries::name;

@@ -30,7 +30,7 @@ use Rattle.load.specs.declared.Row.{Row}
 use Rattle.load.specs.declared.Rows.{Rows}
 use Rattle.load.specs.declared.Weighed.{Weighed}
 use Rattle.load.specs.Load.{row, boundsOf, loadOf, loadRow, passesSystem}
-use Rattle.load.specs.Weigh.{rowsOf, weighed, weighRows}
+use Rattle.load.specs.Weigh.{rowsOf, rowsFrom, weighed, weighRows}
 use Rattle.load.proofs.Load.{boundsOf-length}
 use Rattle.writer.specs.Written.{Written}
 use Rattle.selection.specs.Selection.{choices, leastLoaded}
@@ -42,7 +42,7 @@ use Rattle.reader.specs.declared.PlanFile.{PlanFile}
 use Rattle.reader.specs.Reader.{ReadIs}
 use Rattle.reader.proofs.Handed.{Handed}
 use Rattle.offers.specs.declared.PlanRows.{PlanRows}
-use Rattle.offers.specs.Least.{rowsIn, rowsFrom, choiceQuestions, planRowsWhen, planRowsOf}
+use Rattle.offers.specs.Least.{rowsIn, choiceQuestions, planRowsWhen, planRowsOf}
 use Rattle.printing.specs.Printing.{sharesRead, listingAt, sharesIn, ToPrint}
 use Rattle.answers.specs.declared.Planned.{Planned}
 use Rattle.answers.specs.Parts.{keptRows, sharesOf}
