@@ -1,10 +1,12 @@
 // The operations for callers in C and Rust. An answer has the refusal's number and place, zero on success, and its own numbers.
 use candidates::Kept;
 use least::Frac;
+use load::Row;
 use load::Rows;
+use load::Weighed;
 ghost use mathlib.Core.Path.{_≡_};
 ghost use lib.ListN.{length};
-ghost use Rattle.load.specs.Weigh.{weighRows};
+ghost use Rattle.load.specs.Weigh.{weighOf, weighRows};
 ghost use Rattle.answers.specs.Answers.{planOf, planned, bufferAfter, candidatesOf, candidateList, supplyAnswer, supplied};
 ghost use Rattle.planner_c.specs.Exported.{planExported, candidatesExported, NameExported, weighExported, supplyExported};
 
@@ -81,11 +83,10 @@ pub struct WeighAnswer {
     pub row: u64,
 }
 
-#[no_mangle]
-pub extern "C" fn planner_weigh(rows: Rows) -> WeighAnswer
-    ensures { λ r. ⌜ r ≡ weighExported (weighRows rows) ⌝ }
+// An answer of weighing, with its outcome as number and place.
+fn weigh_answer(a: Weighed) -> WeighAnswer
+    ensures { λ r. ⌜ r ≡ weighExported a ⌝ }
 {
-    let a = planner::weigh(rows);
     let o = a.outcome;
     let bounds = a.bounds;
     let load = a.load;
@@ -96,6 +97,20 @@ pub extern "C" fn planner_weigh(rows: Rows) -> WeighAnswer
         load,
         row: a.row,
     }
+}
+
+#[no_mangle]
+pub extern "C" fn planner_weigh(rows: Rows) -> WeighAnswer
+    ensures { λ r. ⌜ r ≡ weighExported (weighRows rows) ⌝ }
+{
+    weigh_answer(planner::weigh(rows))
+}
+
+#[no_mangle]
+pub extern "C" fn planner_weigh_slice(rows: &[Row]) -> WeighAnswer
+    ensures { λ r. ⌜ r ≡ weighExported (weighOf (now (rows .entry))) ⌝ }
+{
+    weigh_answer(planner::weigh_slice(rows))
 }
 
 #[repr(C)]
