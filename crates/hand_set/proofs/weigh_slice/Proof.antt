@@ -1,5 +1,6 @@
 -- `hand_set::weigh_slice` meets its contract: a walk of its MIR, by hand, with a loop. At each turn the slice is looked into, the row at i copied out, and `with_row` called with it.
 -- The invariant: the struct has the first i rows. All that the proof knows of the four functions called is that each meets its contract.
+-- T is the type of a row, S that of the struct of rows, Q that of the answer. The local _k lies at l_k, and a number after `look`, `init`, `store`, `forget` or `move` is a place in the context.
 -- Assumes nothing.
 use mathlib.Core.Path.{_≡_, refl, sym, ap, _∙_, subst}
 use Prim.Native.Nat.{ℕ, _<_, _≤_, _^_, _*_, _+_, _-_, min, zero-le}
@@ -24,7 +25,7 @@ use prog.Wp.{Heap, Out, Env, afterSeq, afterBlock, afterTurn, Calls, Loops, Wp, 
 use ghost.Atoms.{Atoms}
 use contract.Monad.{Fun, factI}
 use contract.Running.{givenOf, tables, tablesOf}
-use types.Kit.{Given, Item, ‵, _⊛_, ⋆, anyQ, atRet, Sq, _$_, _∵_, !, qed, by, move, keep, drop, use1, split, join, rewrite, fsplit, fjoin, suffices, frame, done, runs}
+use types.Kit.{Given, Item, ‵, _⊛_, ⋆, anyQ, atRet, Sq, _$_, _∵_, !, qed, by, move, keep, drop, split, join, rewrite, fsplit, fjoin, suffices, frame, done, runs}
 use types.Run.{look, look-raw, store, init, forget, stop, hop, fld, from, load, lit, bin, of-opd, and-then, no-more, assigns, assigns-last, land, first, branches, skips, jumps, again, Below, returns, enter, alloc1, alloc0, params1, pass1, pass0, free1, free0, exec}
 use types.Part.{whole, sub, look-in}
 use types.Share.{arr-parts}
@@ -35,16 +36,16 @@ use denote.Laws.{Is, Makes, shows}
 use denote.Memory.{pointee, shares}
 use denote.Plain.{uint-makes, uint-lawful}
 use denote.Ref.{RefT}
-use denote.Slice.{sliceTy, sliceVal, ShrSlice, Room, slice-vals, shr-slice-tells, shr-slice-copy}
+use denote.Slice.{sliceTy, sliceVal, ShrSlice, Room, slice-vals, shr-slice-tells}
 use denote.Index.{place-is, elem-out, elem-back, looks-slice, shuts-slice}
-use denote.Signature.{plain}
+use denote.Signature.{Slot, plain, shrSliceOf}
 use denote.Steps.{only, owned, nothing}
 use denote.Struct.Laws as LL
 use denote.Triple.Statement.{Contract, Triple}
 use denote.Triple.Entry.{Vals, onEntry}
 use denote.Triple.Spec.{Meets, tripleOf}
 use denote.Triple.Table.{entered, cited}
-use denote.Triple.Walked.{says, Stays, stay-none-slice, walkOf, goes-none-slice, Walks, ends-at, walked, walk-meets}
+use denote.Triple.Walked.{says, Stays, stay-dropped, walkOf, goes-dropped, Walks, ends-at, walked, walk-meets}
 use denote.Exit.{yes}
 use Rattle.refusal.specs.Limits.{rowLimit}
 use Rattle.load.specs.declared.Row.{Row}
@@ -58,10 +59,10 @@ use Rattle.load.proofs.Rows as S
 use Rattle.load.proofs.Rows.Laws as S′
 use Rattle.load.proofs.Weighed as Q
 use Rattle.load.proofs.Weighed.Laws as Q′
-use Rattle.load.proofs.weigh.Symbol.{name as #load·weigh}
-use Rattle.load.proofs.weigh.Symbol as weigh-def
-use Rattle.load.proofs.weigh.Met as weigh-thm
 use Rattle.load.proofs.weigh as weigh
+use Rattle.load.proofs.weigh.Symbol as weigh-def
+use Rattle.load.proofs.weigh.Symbol.{name as #weigh}
+use Rattle.load.proofs.weigh.Met as weigh-thm
 use Rattle.hand_set.specs.Gathered.{withRow}
 use Rattle.hand_set.proofs.Calls.{Of, calls-plain}
 use Rattle.hand_set.proofs.Gathered.{rows-next, weigh-first}
@@ -133,8 +134,12 @@ then (call f os p) = skip
 abbrev more : Body
 more = then (then Mir.turn-1)
 
+abbrev slot : Slot 1
+slot = shrSliceOf (0 ∷ []) tt (plain (λ _. T.the-row))
+
+-- nothing is had of the slice at exit
 abbrev stayed : Stays (weigh-slice.ended .signature .params) (weigh-slice.ended .kept)
-stayed = (stay-none-slice (0 ∷ []) tt (plain (λ _. T.the-row)) yes, tt)
+stayed = (stay-dropped slot yes, tt)
 
 module _ {M : Type 1} (𝓤 : URA M) (H : Heap 𝓤) (A : Atoms 𝓤) (mem : Memory → SProp 𝓤) (run : Routine → Fun 𝓤) where
   -- ---- the contracts that the proof cites
@@ -155,7 +160,7 @@ module _ {M : Type 1} (𝓤 : URA M) (H : Heap 𝓤) (A : Atoms 𝓤) (mem : Mem
     places : Triple 𝓤 (𝓣 .C #places) Places
     no-rows : Triple 𝓤 (𝓣 .C #no-rows) NoRows
     with-row : Triple 𝓤 (𝓣 .C #with-row) WithRow
-    weigh : Triple 𝓤 (𝓣 .C #load·weigh) Weigh
+    weigh : Triple 𝓤 (𝓣 .C #weigh) Weigh
 
 module _ {M : Type 1} (𝓤 : URA M) (H : Heap 𝓤) (A : Atoms 𝓤) (W : Given 𝓤 H A) (mem : Memory → SProp 𝓤) (run : Routine → Fun 𝓤) (κ : Lft) (q : Share) (b o : ℕ) (γ : GName) (ys : List Row) (gn : Room T.the-row (length ys)) where
   abbrev n : ℕ
@@ -171,19 +176,15 @@ module _ {M : Type 1} (𝓤 : URA M) (H : Heap 𝓤) (A : Atoms 𝓤) (W : Given
   abbrev at : Vals weigh-slice.signature (κ, tt)
   at = (sliceVal (b, o) n ∷ [], tt)
 
-  -- what the parameter owns
-  abbrev lent : Item 𝓤
-  lent = ‵ (ShrSlice (named 0) κ T.the-row .own (x .0) (at .0))
-
   abbrev Post : Val → SProp 𝓤
   Post = walkOf 𝓤 H A weigh-slice.ended stayed (weigh-slice.clauses 𝓤 H A mem run) .post (((κ, tt), (q, tt), tt, x, at), tt)
 
-  exits : (r : Weighed) (w : Val) → Is Q.the-row r (w ∷ []) → r ≡ weighOf ys → ent 𝓤 (⋆ 𝓤 H A (‵ (flft κ q) ∷ lent ∷ [])) (Post w)
+  exits : (r : Weighed) (w : Val) → Is Q.the-row r (w ∷ []) → r ≡ weighOf ys → ent 𝓤 (⋆ 𝓤 H A (‵ (flft κ q) ∷ [])) (Post w)
   exits r w is e =
-      qed W (‵ (flft κ q) ∷ lent ∷ []) ∵
+      qed W (‵ (flft κ q) ∷ []) ∵
       suffices ! _ (ends-at 𝓤 H A weigh-slice.ended stayed (weigh-slice.clauses 𝓤 H A mem run) W (((κ, tt), (q, tt), tt, x, at), tt) w r (tt, tt) (tt, tt)) $ says ! e $
-      nothing ! $ move ! (1 ∷ 0 ∷ []) $ join ! $ nothing ! $ move ! (2 ∷ 0 ∷ []) $ fjoin ! $ move ! (1 ∷ 0 ∷ []) $
-      frame ! $ frame ! $ owned ! Q.the-row (Is Q.the-row) (LL.makes Q.the-type Q′.the-plain 𝓤 H A) r _ is $ done !
+      nothing ! $ move ! (1 ∷ 0 ∷ []) $ join ! $ frame ! $ nothing ! $ nothing ! $ fjoin ! $ frame ! $
+      owned ! Q.the-row (Is Q.the-row) (LL.makes Q.the-type Q′.the-plain 𝓤 H A) r _ is $ done !
 
   rows-made : Makes 𝓤 H A S.the-row (Is S.the-row)
   rows-made = LL.makes S.the-type S′.the-plain 𝓤 H A
@@ -224,7 +225,7 @@ module _ {M : Type 1} (𝓤 : URA M) (H : Heap 𝓤) (A : Atoms 𝓤) (W : Given
     En = (Q′.mir, l₀) ∷ (slice, l₁) ∷ (word, l₂) ∷ (word, l₃) ∷ (S′.mir, l₄) ∷ (word, l₅) ∷ (tyBool, l₆) ∷ (word, l₇) ∷ (tyPtr, l₈) ∷ (T′.mir, l₉) ∷ []
 
     abbrev At : State → List (Item 𝓤)
-    At t = ‵ (fshr-bor κ (λ s. arr-parts (shares T.the-row) n .part s ys b o)) ∷ ‵ (flft κ q) ∷ lent
+    At t = ‵ (fshr-bor κ (λ s. arr-parts (shares T.the-row) n .part s ys b o)) ∷ ‵ (flft κ q)
         ∷ ‵ (froom T′.mir l₉ 0) ∷ ‵ (fdies T′.mir l₉) ∷ ‵ (froom tyPtr l₈ 0) ∷ ‵ (fdies tyPtr l₈) ∷ ‵ (froom word l₇ 0) ∷ ‵ (fdies word l₇) ∷ ‵ (froom tyBool l₆ 0) ∷ ‵ (fdies tyBool l₆)
         ∷ ‵ (fat fullShare word l₅ 0 (vint w64 (t .place))) ∷ ‵ (fdies word l₅) ∷ ‵ (fat fullShare S′.mir l₄ 0 (t .val)) ∷ ‵ (fdies S′.mir l₄) ∷ ‵ (fat fullShare word l₃ 0 (vint w64 end)) ∷ ‵ (fdies word l₃)
         ∷ ‵ (fat fullShare word l₂ 0 (vint w64 n)) ∷ ‵ (fdies word l₂) ∷ ‵ (fat fullShare slice l₁ 0 (sliceVal (b, o) n)) ∷ ‵ (fdies slice l₁) ∷ ‵ (froom Q′.mir l₀ 0) ∷ ‵ (fdies Q′.mir l₀) ∷ []
@@ -239,31 +240,31 @@ module _ {M : Type 1} (𝓤 : URA M) (H : Heap 𝓤) (A : Atoms 𝓤) (W : Given
     turns : (t : State) → Sq W (At t) (runs C Λ En Mir.turn-1 (anyQ (Turned t)))
     unfolding afterTurn
     turns t =
-        assigns ! (bin ! (load ! (from ! (stop !)) (look ! 11 refl)) (load ! (from ! (stop !)) (look ! 15 refl)) tt) (from ! (stop !)) (init ! 9 refl (tt, tt)) $
-        first ! $ branches ! (load ! (from ! (stop !)) (look ! 9 refl))
+        assigns ! (bin ! (load ! (from ! (stop !)) (look ! 10 refl)) (load ! (from ! (stop !)) (look ! 14 refl)) tt) (from ! (stop !)) (init ! 8 refl (tt, tt)) $
+        first ! $ branches ! (load ! (from ! (stop !)) (look ! 8 refl))
         (λ less. skips ! $ exec ! C Λ En more (anyQ (Turned t)) $
-        assigns ! (bin ! (load ! (from ! (stop !)) (look ! 11 refl)) (lit ! tt) (record { fits = scaled gn (in-list less) })) (from ! (stop !)) (init ! 7 refl (tt, record { fits = scaled gn (in-list less) })) $
-        assigns ! (bin ! (load ! (from ! (fld ! refl (stop !))) (look-in ! 19 (sub ! 0 refl (whole !)))) (load ! (from ! (stop !)) (look ! 7 refl)) tt) (from ! (stop !)) (init ! 5 refl (tt, tt)) $
-        rewrite ! 5 (λ (p : ℕ). ‵ (fat fullShare tyPtr l₈ 0 (vptr b p))) (sym (place-is 24 o (t .place))) refl $
+        assigns ! (bin ! (load ! (from ! (stop !)) (look ! 10 refl)) (lit ! tt) (record { fits = scaled gn (in-list less) })) (from ! (stop !)) (init ! 6 refl (tt, record { fits = scaled gn (in-list less) })) $
+        assigns ! (bin ! (load ! (from ! (fld ! refl (stop !))) (look-in ! 18 (sub ! 0 refl (whole !)))) (load ! (from ! (stop !)) (look ! 6 refl)) tt) (from ! (stop !)) (init ! 4 refl (tt, tt)) $
+        rewrite ! 4 (λ (p : ℕ). ‵ (fat fullShare tyPtr l₈ 0 (vptr b p))) (sym (place-is 24 o (t .place))) refl $
         looks-slice ! tt T.the-row (Is T.the-row) (shows 𝓤 H A T.the-row) row-vals (LL.tells T.the-type T′.the-laws) (LL.copy T.the-type T′.the-copy 𝓤 H A W) ys b o (λ q′. elem-out ! T.the-row (Is T.the-row) (shows 𝓤 H A T.the-row) row-vals (LL.tells T.the-type T′.the-laws) q′ ys (t .place) (row 0 0 0) b o (in-list less) (λ g.
-        -- [rows[i]; what it owns; the others; what shuts; the fractured borrow; rows; _9; …]: each place from 2 on is now 3 further
-        assigns ! (of-opd ! (load ! (from ! (hop ! (look ! 8 refl) (stop !))) (look-raw ! 0 refl))) (from ! (stop !)) (init ! 6 refl (LL.lawful T.the-type T′.the-laws 𝓤 H A W .typed (row-of (t .place)) _ g .0)) $
+        -- [rows[i]; what it owns; the others; what shuts; the fractured borrow; _9; …]: each place from 2 on is now 3 further
+        assigns ! (of-opd ! (load ! (from ! (hop ! (look ! 7 refl) (stop !))) (look-raw ! 0 refl))) (from ! (stop !)) (init ! 5 refl (LL.lawful T.the-type T′.the-laws 𝓤 H A W .typed (row-of (t .place)) _ g .0)) $
         elem-back ! T.the-row q′ ys (t .place) (row 0 0 0) (row-vals (row-of (t .place))) b o (in-list less) $ shuts-slice ! tt T.the-row q′ ys b o $
-        -- [the token; the fractured borrow; rows; _9; …]: `with_row` is called
+        -- [the token; the fractured borrow; _9; …]: `with_row` is called
         calls-plain ! fm with-row.ended (with-row.clauses 𝓤 H A mem run) (known .with-row) ((tt, tt, tt, (t .all, (t .place, (row-of (t .place), tt))), (t .val ∷ [], (vint w64 (t .place) ∷ [], (row-vals (row-of (t .place)), tt)))), tt)
         (id⊢ 𝓤 _) (factI 𝓤 _ (emp 𝓤) (in-places less)) (rows-made, (uint-makes 𝓤 H A W w64, (LL.makes T.the-type T′.the-plain 𝓤 H A, tt))) (t .is, ((refl, fits less), (g, tt))) (λ r. r ≡ withRow (t .all) (t .place) (row-of (t .place))) (λ r ws. id⊢ 𝓤 _)
-        (and-then ! (load ! (from ! (stop !)) (look ! 14 refl)) (and-then ! (load ! (from ! (stop !)) (look ! 12 refl)) (and-then ! (load ! (from ! (stop !)) (look ! 4 refl)) (no-more !)))) (λ r v e is.
-        land ! (from ! (stop !)) (store ! 13 refl (rows-typed r v is)) $
-        assigns-last ! (bin ! (load ! (from ! (stop !)) (look ! 11 refl)) (lit ! tt) (record { fits = next-fits gn (in-list less) })) (from ! (stop !)) (store ! 11 refl (tt, record { fits = next-fits gn (in-list less) })) $
-        forget ! 3 refl $ forget ! 5 refl $ forget ! 7 refl $ forget ! 9 refl $ move ! (1 ∷ 0 ∷ []) $
+        (and-then ! (load ! (from ! (stop !)) (look ! 13 refl)) (and-then ! (load ! (from ! (stop !)) (look ! 11 refl)) (and-then ! (load ! (from ! (stop !)) (look ! 3 refl)) (no-more !)))) (λ r v e is.
+        land ! (from ! (stop !)) (store ! 12 refl (rows-typed r v is)) $
+        assigns-last ! (bin ! (load ! (from ! (stop !)) (look ! 10 refl)) (lit ! tt) (record { fits = next-fits gn (in-list less) })) (from ! (stop !)) (store ! 10 refl (tt, record { fits = next-fits gn (in-list less) })) $
+        forget ! 2 refl $ forget ! 4 refl $ forget ! 6 refl $ forget ! 8 refl $ move ! (1 ∷ 0 ∷ []) $
         again ! Nearer At t (record { place = t .place + 1; all = r; val = v; upto = add-one-le (within less); is = is; has = e ∙ step less }) (nearer end (t .place) (within less))))))
         (λ over. jumps ! $ exec ! C Λ En Mir.t-6 (atRet En Post) $
         calls-plain ! fm weigh.ended (weigh.clauses 𝓤 H A mem run) (known .weigh) ((tt, tt, tt, (t .all, tt), (t .val ∷ [], tt)), tt)
-        (id⊢ 𝓤 _) (id⊢ 𝓤 _) (rows-made, tt) (t .is, tt) (λ r. r ≡ weighRows (t .all)) (λ r ws. id⊢ 𝓤 _) (and-then ! (load ! (from ! (stop !)) (look ! 14 refl)) (no-more !)) (λ r v e is.
-        land ! (from ! (stop !)) (init ! 21 refl (LL.lawful Q.the-type Q′.the-laws 𝓤 H A W .typed r _ is .0)) $
-        returns ! (look ! 21 refl) $ forget ! 9 refl $ forget ! 11 refl $ forget ! 13 refl $ forget ! 15 refl $ forget ! 17 refl $ forget ! 19 refl $ forget ! 21 refl $
-        move ! (21 ∷ 22 ∷ []) $ free1 ! $ move ! (19 ∷ 20 ∷ []) $ free1 ! $ move ! (17 ∷ 18 ∷ []) $ free1 ! $ move ! (15 ∷ 16 ∷ []) $ free1 ! $ move ! (13 ∷ 14 ∷ []) $ free1 ! $ move ! (11 ∷ 12 ∷ []) $ free1 ! $ move ! (9 ∷ 10 ∷ []) $ free1 ! $ move ! (7 ∷ 8 ∷ []) $ free1 ! $ move ! (5 ∷ 6 ∷ []) $ free1 ! $ move ! (3 ∷ 4 ∷ []) $ free1 ! $ free0 ! $
-        keep ! (1 ∷ 2 ∷ []) $ by ! (exits r v is (e ∙ weighed-all over))))
+        (id⊢ 𝓤 _) (id⊢ 𝓤 _) (rows-made, tt) (t .is, tt) (λ r. r ≡ weighRows (t .all)) (λ r ws. id⊢ 𝓤 _) (and-then ! (load ! (from ! (stop !)) (look ! 13 refl)) (no-more !)) (λ r v e is.
+        land ! (from ! (stop !)) (init ! 20 refl (LL.lawful Q.the-type Q′.the-laws 𝓤 H A W .typed r _ is .0)) $
+        returns ! (look ! 20 refl) $ forget ! 8 refl $ forget ! 10 refl $ forget ! 12 refl $ forget ! 14 refl $ forget ! 16 refl $ forget ! 18 refl $ forget ! 20 refl $
+        move ! (20 ∷ 21 ∷ []) $ free1 ! $ move ! (18 ∷ 19 ∷ []) $ free1 ! $ move ! (16 ∷ 17 ∷ []) $ free1 ! $ move ! (14 ∷ 15 ∷ []) $ free1 ! $ move ! (12 ∷ 13 ∷ []) $ free1 ! $ move ! (10 ∷ 11 ∷ []) $ free1 ! $ move ! (8 ∷ 9 ∷ []) $ free1 ! $ move ! (6 ∷ 7 ∷ []) $ free1 ! $ move ! (4 ∷ 5 ∷ []) $ free1 ! $ move ! (2 ∷ 3 ∷ []) $ free1 ! $ free0 ! $
+        keep ! (1 ∷ []) $ by ! (exits r v is (e ∙ weighed-all over))))
       where
         within : T (ltb (t .place) end) → t .place < end
         within less = ltb→lt (t .place) end less
@@ -309,10 +310,9 @@ module _ {M : Type 1} (𝓤 : URA M) (H : Heap 𝓤) (A : Atoms 𝓤) (W : Given
         (id⊢ 𝓤 _) (id⊢ 𝓤 _) (uint-makes 𝓤 H A W w64, tt) ((refl, gn .0), tt) (λ a. a ≡ rowsFrom [] n) (λ a ws. id⊢ 𝓤 _) (and-then ! (load ! (from ! (stop !)) (look ! 15 refl)) (no-more !)) (λ a w e₀ is₀.
         land ! (from ! (stop !)) (init ! 10 refl (rows-typed a w is₀)) $
         assigns ! (of-opd ! (lit ! tt)) (from ! (stop !)) (init ! 8 refl (tt, record { fits = lit< tt })) $
-        move ! (21 ∷ []) $ fsplit ! $ use1 W (lent ⊛ lent) (shr-slice-copy 𝓤 H A W (named 0) κ T.the-row .twice (x .0) (at .0)) $ split ! $
-        fsplit ! $ drop ! $ fsplit ! $ drop ! $ move ! (23 ∷ []) $ split ! $
-        -- [the token; true; the fractured borrow; rows; true; _9; …; _0; …]
-        keep ! (2 ∷ 0 ∷ 3 ∷ 5 ∷ 6 ∷ 7 ∷ 8 ∷ 9 ∷ 10 ∷ 11 ∷ 12 ∷ 13 ∷ 14 ∷ 15 ∷ 16 ∷ 17 ∷ 18 ∷ 19 ∷ 20 ∷ 21 ∷ 22 ∷ 23 ∷ 24 ∷ []) $
+        move ! (21 ∷ []) $ fsplit ! $ fsplit ! $ drop ! $ fsplit ! $ drop ! $ move ! (22 ∷ []) $ split ! $
+        -- [the token; true; the fractured borrow; true; _9; …; _0; …]
+        keep ! (2 ∷ 0 ∷ 4 ∷ 5 ∷ 6 ∷ 7 ∷ 8 ∷ 9 ∷ 10 ∷ 11 ∷ 12 ∷ 13 ∷ 14 ∷ 15 ∷ 16 ∷ 17 ∷ 18 ∷ 19 ∷ 20 ∷ 21 ∷ 22 ∷ 23 ∷ []) $
         by ! (ran (record { place = 0; all = a; val = w; upto = zero-le; is = is₀; has = e₀ }))))
 
   walked-at : (𝓣 : Tables 𝓤 H) → Known 𝓤 H A mem run 𝓣 → ent 𝓤 (onEntry 𝓤 H A weigh-slice.signature (κ, tt) (q, tt) x at) (WpFn 𝓤 H (𝓣 .C) (𝓣 .Λ) function (sliceVal (b, o) n ∷ []) Post)
@@ -331,7 +331,7 @@ module _ {M : Type 1} (𝓤 : URA M) (H : Heap 𝓤) (A : Atoms 𝓤) (W : Given
       (λ κs qs bounds a g are. via 𝓤 _ (fst∗ 𝓤 _ (emp 𝓤)) (walk 𝓤 H A W mem run (κs .0) (qs .0) (a .0 .ptr .0) (a .0 .ptr .1) (a .0 .name) (a .0 .now) (are .0 .0 .1) 𝓣 known))
 
   weigh-slice-meets : Meets 𝓤 H A weigh-slice.signature (WpFn 𝓤 H (𝓣 .C) (𝓣 .Λ) code.function) (weigh-slice.spec 𝓤 H A mem run)
-  weigh-slice-meets = walk-meets 𝓤 H A weigh-slice.ended stayed W (goes-none-slice 𝓤 H A W 1 (0 ∷ []) tt (plain (λ _. T.the-row)) yes, tt) (weigh-slice.clauses 𝓤 H A mem run) (WpFn 𝓤 H (𝓣 .C) (𝓣 .Λ) code.function) (WpFn-mono 𝓤 H (W .laws) 𝓣 code.function) weigh-slice-walks
+  weigh-slice-meets = walk-meets 𝓤 H A weigh-slice.ended stayed W (goes-dropped 𝓤 H A W 1 slot yes (λ κs x f. refl), tt) (weigh-slice.clauses 𝓤 H A mem run) (WpFn 𝓤 H (𝓣 .C) (𝓣 .Λ) code.function) (WpFn-mono 𝓤 H (W .laws) 𝓣 code.function) weigh-slice-walks
 
 pub weigh-slice-spec : {M : Type 1} → stated.statement M
 unfolding code.routine tablesOf
@@ -342,5 +342,5 @@ weigh-slice-spec 𝓤 H 𝓜 𝓖 𝓡 =
       places = cited 𝓤 H (Places 𝓤 H (𝓖 .A) (𝓜 .mem) (𝓡 .run)) 𝓜 𝓡 code.env #places places-def.routine code.calls-hand-set·places (places-thm.met 𝓤 H 𝓜 𝓖 𝓡);
       no-rows = cited 𝓤 H (NoRows 𝓤 H (𝓖 .A) (𝓜 .mem) (𝓡 .run)) 𝓜 𝓡 code.env #no-rows no-rows-def.routine code.calls-hand-set·no-rows (no-rows-thm.met 𝓤 H 𝓜 𝓖 𝓡);
       with-row = cited 𝓤 H (WithRow 𝓤 H (𝓖 .A) (𝓜 .mem) (𝓡 .run)) 𝓜 𝓡 code.env #with-row with-row-def.routine code.calls-hand-set·with-row (with-row-thm.met 𝓤 H 𝓜 𝓖 𝓡);
-      weigh = cited 𝓤 H (Weigh 𝓤 H (𝓖 .A) (𝓜 .mem) (𝓡 .run)) 𝓜 𝓡 code.env #load·weigh weigh-def.routine code.calls-load·weigh (weigh-thm.met 𝓤 H 𝓜 𝓖 𝓡);
+      weigh = cited 𝓤 H (Weigh 𝓤 H (𝓖 .A) (𝓜 .mem) (𝓡 .run)) 𝓜 𝓡 code.env #weigh weigh-def.routine code.calls-load·weigh (weigh-thm.met 𝓤 H 𝓜 𝓖 𝓡);
     })
