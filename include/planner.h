@@ -55,6 +55,8 @@ typedef struct {
     uint64_t row;
 } planner_weigh_answer;
 planner_weigh_answer planner_weigh(planner_rows rows);
+/* The same of a list of any length. */
+planner_weigh_answer planner_weigh_slice(const planner_row *rows, size_t count);
 
 /* What a budget of `budget` in every `period` ticks supplies in `time` ticks. */
 typedef struct {

@@ -27,8 +27,8 @@ static void print_part(size_t length, size_t part) {
 }
 
 static void print_row(uint64_t period, uint64_t budget, uint64_t holding) {
-    planner_rows rows = {.rows = {{period, budget, holding}}, .count = 1};
-    planner_weigh_answer weighed = planner_weigh(rows);
+    planner_row row = {period, budget, holding};
+    planner_weigh_answer weighed = planner_weigh_slice(&row, 1);
     planner_supply_answer supplied = planner_supply(period, budget, 2 * period);
     printf("(%" PRIu64 ",%" PRIu64 ",%" PRIu64 "): load %" PRIu64 "/%" PRIu64 ", supply in two periods %" PRIu64 "\n", period, budget, holding,
            weighed.load.num, weighed.load.den, supplied.ticks);

@@ -77,6 +77,7 @@ extern "C" {
     fn planner_plan(file: *const u8, length: usize, out: *mut u8, room: usize) -> PlanAnswer;
     fn planner_name(file: *const u8, length: usize, part: usize) -> NameAnswer;
     fn planner_weigh(rows: CRows) -> WeighAnswer;
+    fn planner_weigh_slice(rows: *const CRow, count: usize) -> WeighAnswer;
     fn planner_candidates(file: *const u8, length: usize, part: usize) -> CandidatesAnswer;
     fn planner_supply(period: u64, budget: u64, time: u64) -> SupplyAnswer;
 }
@@ -112,25 +113,42 @@ pub fn name(file: &[u8], part: usize) -> Result<Range<usize>, Refusal> {
     Ok(answer.start..answer.start + answer.length)
 }
 
-/// Weighs rows set by hand; behind the sixteenth only their count is handed over.
-pub fn weigh(rows: &[Row]) -> Result<Weighing, Refusal> {
-    let row_at = |place: usize| {
-        rows.get(place)
-            .map_or((0, 0, 0), |row| (row.period, row.budget, row.holding))
+/// A row as the library takes it.
+fn row_for_c(row: &Row) -> CRow {
+    CRow {
+        period: row.period,
+        budget: row.budget,
+        holding: row.holding,
+    }
+}
+
+/// Weighs rows set by hand, handed over by value; behind the sixteenth only their count is.
+pub fn weigh_by_value(rows: &[Row]) -> Result<Weighing, Refusal> {
+    let none = Row {
+        period: 0,
+        budget: 0,
+        holding: 0,
     };
     let by_value = CRows {
-        rows: std::array::from_fn(|place| {
-            let (period, budget, holding) = row_at(place);
-            CRow {
-                period,
-                budget,
-                holding,
-            }
-        }),
+        rows: std::array::from_fn(|place| row_for_c(rows.get(place).unwrap_or(&none))),
         count: rows.len(),
     };
     // SAFETY: numbers in, numbers out.
-    let answer = unsafe { planner_weigh(by_value) };
+    weighing(rows.len(), unsafe { planner_weigh(by_value) })
+}
+
+/// Weighs rows set by hand.
+pub fn weigh(rows: &[Row]) -> Result<Weighing, Refusal> {
+    let list: Vec<CRow> = rows.iter().map(row_for_c).collect();
+    // SAFETY: the pointer and the count are those of the list, which the call only reads.
+    weighing(rows.len(), unsafe {
+        planner_weigh_slice(list.as_ptr(), list.len())
+    })
+}
+
+/// What an answer of weighing says of that many rows. A refusal has no bounds, and places behind
+/// the rows are zero: anything else is a fault of the library.
+fn weighing(count: usize, answer: WeighAnswer) -> Result<Weighing, Refusal> {
     let bound = |of: &CFrac| Bound {
         demand: of.num,
         time: of.den,
@@ -140,7 +158,7 @@ pub fn weigh(rows: &[Row]) -> Result<Weighing, Refusal> {
         assert!(answer.bounds.iter().all(none) && none(&answer.load) && answer.row == 0);
         return Err(refusal);
     }
-    let (bounds, rest) = answer.bounds.split_at(rows.len());
+    let (bounds, rest) = answer.bounds.split_at(count);
     assert!(rest.iter().all(none) && answer.place == 0);
     let weighing = Weighing {
         bounds: bounds.iter().map(bound).collect(),

@@ -178,6 +178,7 @@ fn rows_set_by_hand() {
             rows.resize(random.index(40), rows[0]);
         }
         assert_eq!(library::weigh(&rows), weigh(&rows), "{rows:?}");
+        assert_eq!(library::weigh_by_value(&rows), weigh(&rows), "{rows:?}");
     }
 }
 
