@@ -83,7 +83,7 @@ fn with_row(all: Rows, i: usize, row: Row) -> Rows
     next
 }
 
-// Weighs a lent list of rows, of any length.
+// Weighs a lent list of rows, of any length. Only the first sixteen are copied: more are refused by their count.
 pub fn weigh_slice(rows: &[Row]) -> Weighed
     ensures { λ w. ⌜ w ≡ weighOf (now (rows .entry)) ⌝ }
 {
