@@ -200,3 +200,40 @@ fn supplies_at_and_past_the_limits() {
         assert_eq!(library::supply(p, q, t), supply_answer(p, q, t));
     }
 }
+
+/// The supply of an EDP resource whose deadline is its period: document 000, equation (14).
+fn supply_of_000(p: i64, q: i64, t: i64) -> i64 {
+    let h = (t - (p - q) + p - 1).div_euclid(p);
+    0.max((h - 1) * q).max(t - (h + 1) * (p - q))
+}
+
+/// The supply of a periodic server: document 004, equation (3.1).
+fn supply_of_004(p: i64, q: i64, t: i64) -> i64 {
+    let delay = 2 * (p - q);
+    if t < delay {
+        return 0;
+    }
+    let m = (t - delay) / p;
+    if t < delay + m * p + q {
+        t - (delay + m * (p - q))
+    } else {
+        (m + 1) * q
+    }
+}
+
+#[test]
+fn supplies_as_documents_000_and_004_have_them() {
+    for p in 1..=40 {
+        for q in 1..=p {
+            for t in 0..=4 * p + 9 {
+                let ticks = library::supply(p as u64, q as u64, t as u64).map(|ticks| ticks as i64);
+                assert_eq!(ticks, Ok(supply_of_000(p, q, t)), "({p},{q}) at {t}");
+                assert_eq!(ticks, Ok(supply_of_004(p, q, t)), "({p},{q}) at {t}");
+            }
+            // The longest time without supply is 2(P - Q): document 000, equation (18).
+            let delay = 2 * (p - q) as u64;
+            assert_eq!(library::supply(p as u64, q as u64, delay), Ok(0));
+            assert_eq!(library::supply(p as u64, q as u64, delay + 1), Ok(1));
+        }
+    }
+}
