@@ -760,6 +760,95 @@ fn n2_n7_n8_permission_and_least_budgets_do_not_show() {
     }
 }
 
+/// Table 1 of document 001, all times doubled.
+fn table_1() -> Vec<u8> {
+    w(&[
+        "part s 250",
+        "task t1 1500 16 1500",
+        "lock r2 8",
+        "task t2 1300 100 1300",
+        "lock r1 10",
+        "task t3 1200 20 1200",
+        "task t4 1000 70 1000",
+        "lock r1 20",
+        "task t5 320 2 320",
+        "task t6 300 4 300",
+        "end",
+    ])
+}
+
+#[test]
+fn a3_b11_every_setting_of_table_1() {
+    // r1, r2, X, least Q, blocking of tasks 1 to 6
+    let table = [
+        (4, 1, 204, 102, [0, 0, 10, 10, 0, 0]),
+        (5, 1, 204, 105, [0, 0, 10, 10, 20, 0]),
+        (6, 1, 204, 112, [0, 0, 10, 10, 20, 20]),
+        (4, 2, 104, 102, [0, 8, 10, 10, 0, 0]),
+        (5, 2, 104, 105, [0, 8, 10, 10, 20, 0]),
+        (6, 2, 104, 112, [0, 8, 10, 10, 20, 20]),
+        (4, 3, 84, 102, [0, 8, 10, 10, 0, 0]),
+        (5, 3, 84, 105, [0, 8, 10, 10, 20, 0]),
+        (6, 3, 84, 112, [0, 8, 10, 10, 20, 20]),
+        (4, 4, 26, 102, [0, 8, 10, 10, 0, 0]),
+        (5, 4, 24, 105, [0, 8, 10, 10, 20, 0]),
+        (6, 4, 20, 112, [0, 8, 10, 10, 20, 20]),
+        (4, 5, 26, 102, [0, 8, 10, 10, 8, 0]),
+        (5, 5, 24, 105, [0, 8, 10, 10, 20, 0]),
+        (6, 5, 20, 112, [0, 8, 10, 10, 20, 20]),
+        (4, 6, 26, 106, [0, 8, 10, 10, 8, 8]),
+        (5, 6, 24, 106, [0, 8, 10, 10, 20, 8]),
+        (6, 6, 20, 112, [0, 8, 10, 10, 20, 20]),
+    ];
+    let part = literal::read(&table_1())
+        .expect("a readable file")
+        .remove(0);
+    assert_eq!(part.settings().len(), table.len());
+    let least = |r1: usize, r2: usize| {
+        let setting = vec![("r2".to_owned(), r2), ("r1".to_owned(), r1)];
+        (1..=part.period).find(|&budget| part.passes(&setting, budget))
+    };
+    for (r1, r2, x, q, blockings) in table {
+        let setting = vec![("r2".to_owned(), r2), ("r1".to_owned(), r1)];
+        assert!(part.settings().contains(&setting));
+        assert_eq!(part.holding_time(&setting), Some(x));
+        assert_eq!(least(r1, r2), Some(q));
+        let blocked: Vec<i64> = (1..=6).map(|i| part.blocking(&setting, i)).collect();
+        assert_eq!(blocked, blockings);
+        // Lemma 5: the larger of the least budgets with only one ceiling raised.
+        assert_eq!(least(r1, r2), least(r1, 1).max(least(4, r2)));
+    }
+    assert_eq!(kept(&table_1(), 1), [(102, 26), (105, 24), (112, 20)]);
+}
+
+/// The least budget that supplies `need` ticks by t: document 000, Lemma 1 and Algorithm 1, in whole
+/// ticks, with its root found by whole numbers.
+fn partial_budget(period: i64, need: i64, t: i64) -> i64 {
+    // The floor of the positive root of P k² + (P − t) k − need. Algorithm 1 divides the need by it,
+    // whether the root is whole or not.
+    let value = |k: i64| period * k * k + (period - t) * k - need;
+    let floor = (0..).take_while(|&k| value(k) <= 0).last().unwrap_or(0);
+    let up = |a: i64, b: i64| (a + b - 1).div_euclid(b);
+    let first = up(need - t + (floor + 2) * period, floor + 2);
+    if floor == 0 {
+        return first;
+    }
+    first.min(up(need, floor))
+}
+
+#[test]
+fn b4_the_least_budget_by_algorithm_1() {
+    let random = &mut Random::new(8);
+    for _ in 0..50_000 {
+        let period = random.within(1..=60) as i64;
+        let t = random.within(1..=300) as i64;
+        let need = random.within(1..=t as u64) as i64;
+        let least = (1..=period).find(|&budget| need <= literal::supply(period, budget, t));
+        let by_lemma = Some(partial_budget(period, need, t)).filter(|&budget| budget <= period);
+        assert_eq!(least, by_lemma, "P = {period}, {need} ticks by {t}");
+    }
+}
+
 #[test]
 fn n10_weighing_in_its_order_of_questions() {
     assert_eq!(unweighed(&[(10, 1, 65_535)]), (13, 1));
