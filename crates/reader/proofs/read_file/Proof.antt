@@ -57,7 +57,9 @@ shorter : (e : tie.After-entry-at Inv-loop μ-loop) → length (file (at e)) - b
 shorter e = turn-shortens (file (at e)) (at e .loop .c) (shape e) (behind e) (record-is e)
 
 part-at : (e : tie.After-entry-at Inv-loop μ-loop) → at e .loop .«open» < 16
-part-at e = part-room (file (at (e))) (at (e) .loop .c) (at (e) .loop .seen) (at (e) .loop .«open») (at (e) .loop .name) (at (e) .loop .period) (at (e) .loop .tasks) (at (e) .loop .all) (at (e) .loop .inv) (shape (e)) (behind (e)) (record-is (e))
+part-at e =
+    let l = at e in
+    part-room (file l) (l .loop .c) (l .loop .seen) (l .loop .«open») (l .loop .name) (l .loop .period) (l .loop .tasks) (l .loop .all) (l .loop .inv) (shape e) (behind e) (record-is e)
 
 refused-file-requires : tie.Need-refused-file-requires Inv-loop μ-loop
 refused-file-requires c κs = search needs
@@ -157,7 +159,10 @@ array-set-from-all : tie.Need-array-set-from-all Inv-loop μ-loop
 array-set-from-all c = part-at (c .before .before .before .before .before)
 
 seen-part-requires : tie.Need-seen-part-requires Inv-loop μ-loop
-seen-part-requires c κs = name-room (file (at (c .before .before .before .before .before))) (at (c .before .before .before .before .before) .loop .c) (at (c .before .before .before .before .before) .loop .seen) (at (c .before .before .before .before .before) .loop .«open») (at (c .before .before .before .before .before) .loop .name) (at (c .before .before .before .before .before) .loop .period) (at (c .before .before .before .before .before) .loop .tasks) (at (c .before .before .before .before .before) .loop .all) (at (c .before .before .before .before .before) .loop .inv) (shape (c .before .before .before .before .before)) (behind (c .before .before .before .before .before)) (record-is (c .before .before .before .before .before)) (c .before .before .before .new-name .given .0 .0) (c .before .before .before .new-name .given .0 .1 .0) (entry-is (c .before .before .before .before .before) ∙ c .before .before .before .new-name .given .1)
+seen-part-requires c κs =
+    let e = c .before .before .before .before .before in
+    let l = at e in
+    name-room (file l) (l .loop .c) (l .loop .seen) (l .loop .«open») (l .loop .name) (l .loop .period) (l .loop .tasks) (l .loop .all) (l .loop .inv) (shape e) (behind e) (record-is e) (c .before .before .before .new-name .given .0 .0) (c .before .before .before .new-name .given .0 .1 .0) (entry-is e ∙ c .before .before .before .new-name .given .1)
 
 loop-less : tie.Need-loop-less Inv-loop μ-loop
 loop-less c = shorter (c .before .before .before .before .before .before)
@@ -165,51 +170,83 @@ loop-less c = shorter (c .before .before .before .before .before .before)
 loop-again : tie.Need-loop-again Inv-loop μ-loop
 unfolding pad
 loop-again c =
-    let law = reading-part (file (at (c .before .before .before .before .before .before))) (at (c .before .before .before .before .before .before) .loop .c) (at (c .before .before .before .before .before .before) .loop .seen) (at (c .before .before .before .before .before .before) .loop .«open») (at (c .before .before .before .before .before .before) .loop .name) (at (c .before .before .before .before .before .before) .loop .period) (at (c .before .before .before .before .before .before) .loop .tasks) (at (c .before .before .before .before .before .before) .loop .all) (at (c .before .before .before .before .before .before) .loop .inv) (shape (c .before .before .before .before .before .before)) (behind (c .before .before .before .before .before .before)) (record-is (c .before .before .before .before .before .before)) (c .before .before .before .before .new-name .given .0 .0) (c .before .before .before .before .new-name .given .0 .1 .0) (entry-is (c .before .before .before .before .before .before) ∙ c .before .before .before .before .new-name .given .1) in
+    let e = c .before .before .before .before .before .before in
+    let l = at e in
+    let law = reading-part (file l) (l .loop .c) (l .loop .seen) (l .loop .«open») (l .loop .name) (l .loop .period) (l .loop .tasks) (l .loop .all) (l .loop .inv) (shape e) (behind e) (record-is e) (c .before .before .before .before .new-name .given .0 .0) (c .before .before .before .before .new-name .given .0 .1 .0) (entry-is e ∙ c .before .before .before .before .new-name .given .1) in
     rw (c .seen-part .ensures, c .before .closed-part .ensures, c .before .before .before .before .before .before .before .before .before .before .before .before .before .no-task .ensures) law
 
 enum-known-task-name : tie.Need-enum-known-task-name Inv-loop μ-loop
 enum-known-task-name c = search needs
 
 mul-tasks : tie.Need-mul-tasks Inv-loop μ-loop
-mul-tasks c = omega (arith, task-room (file (at (c .before .before .before))) (at (c .before .before .before) .loop .c) (at (c .before .before .before) .loop .seen) (at (c .before .before .before) .loop .«open») (at (c .before .before .before) .loop .name) (at (c .before .before .before) .loop .period) (at (c .before .before .before) .loop .tasks) (at (c .before .before .before) .loop .all) (at (c .before .before .before) .loop .inv) (shape (c .before .before .before)) (behind (c .before .before .before)) (record-is (c .before .before .before)) (c .before .task-name .given .0 .0) (c .before .task-name .given .0 .1 .0) (c .before .task-name .given .0 .1 .1 .0) (c .before .task-name .given .0 .1 .1 .1 .0) (entry-is (c .before .before .before) ∙ c .before .task-name .given .1))
+mul-tasks c =
+    let e = c .before .before .before in
+    let l = at e in
+    omega (arith, task-room (file l) (l .loop .c) (l .loop .seen) (l .loop .«open») (l .loop .name) (l .loop .period) (l .loop .tasks) (l .loop .all) (l .loop .inv) (shape e) (behind e) (record-is e) (c .before .task-name .given .0 .0) (c .before .task-name .given .0 .1 .0) (c .before .task-name .given .0 .1 .1 .0) (c .before .task-name .given .0 .1 .1 .1 .0) (entry-is e ∙ c .before .task-name .given .1))
 
 array-set-from-tasks : tie.Need-array-set-from-tasks Inv-loop μ-loop
-array-set-from-tasks c = task-room (file (at (c .before .before .before))) (at (c .before .before .before) .loop .c) (at (c .before .before .before) .loop .seen) (at (c .before .before .before) .loop .«open») (at (c .before .before .before) .loop .name) (at (c .before .before .before) .loop .period) (at (c .before .before .before) .loop .tasks) (at (c .before .before .before) .loop .all) (at (c .before .before .before) .loop .inv) (shape (c .before .before .before)) (behind (c .before .before .before)) (record-is (c .before .before .before)) (c .before .task-name .given .0 .0) (c .before .task-name .given .0 .1 .0) (c .before .task-name .given .0 .1 .1 .0) (c .before .task-name .given .0 .1 .1 .1 .0) (entry-is (c .before .before .before) ∙ c .before .task-name .given .1)
+array-set-from-tasks c =
+    let e = c .before .before .before in
+    let l = at e in
+    task-room (file l) (l .loop .c) (l .loop .seen) (l .loop .«open») (l .loop .name) (l .loop .period) (l .loop .tasks) (l .loop .all) (l .loop .inv) (shape e) (behind e) (record-is e) (c .before .task-name .given .0 .0) (c .before .task-name .given .0 .1 .0) (c .before .task-name .given .0 .1 .1 .0) (c .before .task-name .given .0 .1 .1 .1 .0) (entry-is e ∙ c .before .task-name .given .1)
 
 seen-task-requires : tie.Need-seen-task-requires Inv-loop μ-loop
-seen-task-requires c κs = task-room (file (at (c .before .before .before))) (at (c .before .before .before) .loop .c) (at (c .before .before .before) .loop .seen) (at (c .before .before .before) .loop .«open») (at (c .before .before .before) .loop .name) (at (c .before .before .before) .loop .period) (at (c .before .before .before) .loop .tasks) (at (c .before .before .before) .loop .all) (at (c .before .before .before) .loop .inv) (shape (c .before .before .before)) (behind (c .before .before .before)) (record-is (c .before .before .before)) (c .before .task-name .given .0 .0) (c .before .task-name .given .0 .1 .0) (c .before .task-name .given .0 .1 .1 .0) (c .before .task-name .given .0 .1 .1 .1 .0) (entry-is (c .before .before .before) ∙ c .before .task-name .given .1)
+seen-task-requires c κs =
+    let e = c .before .before .before in
+    let l = at e in
+    task-room (file l) (l .loop .c) (l .loop .seen) (l .loop .«open») (l .loop .name) (l .loop .period) (l .loop .tasks) (l .loop .all) (l .loop .inv) (shape e) (behind e) (record-is e) (c .before .task-name .given .0 .0) (c .before .task-name .given .0 .1 .0) (c .before .task-name .given .0 .1 .1 .0) (c .before .task-name .given .0 .1 .1 .1 .0) (entry-is e ∙ c .before .task-name .given .1)
 
 loop-less-2 : tie.Need-loop-less-2 Inv-loop μ-loop
 loop-less-2 c = shorter (c .before .before .before .before)
 
 loop-again-2 : tie.Need-loop-again-2 Inv-loop μ-loop
 unfolding pad
-loop-again-2 c = rw (c .seen-task .ensures) (reading-task (file (at (c .before .before .before .before))) (at (c .before .before .before .before) .loop .c) (at (c .before .before .before .before) .loop .seen) (at (c .before .before .before .before) .loop .«open») (at (c .before .before .before .before) .loop .name) (at (c .before .before .before .before) .loop .period) (at (c .before .before .before .before) .loop .tasks) (at (c .before .before .before .before) .loop .all) (at (c .before .before .before .before) .loop .inv) (shape (c .before .before .before .before)) (behind (c .before .before .before .before)) (record-is (c .before .before .before .before)) (c .before .before .task-name .given .0 .0) (c .before .before .task-name .given .0 .1 .0) (c .before .before .task-name .given .0 .1 .1 .0) (c .before .before .task-name .given .0 .1 .1 .1 .0) (entry-is (c .before .before .before .before) ∙ c .before .before .task-name .given .1))
+loop-again-2 c =
+    let e = c .before .before .before .before in
+    let l = at e in
+    rw (c .seen-task .ensures) (reading-task (file l) (l .loop .c) (l .loop .seen) (l .loop .«open») (l .loop .name) (l .loop .period) (l .loop .tasks) (l .loop .all) (l .loop .inv) (shape e) (behind e) (record-is e) (c .before .before .task-name .given .0 .0) (c .before .before .task-name .given .0 .1 .0) (c .before .before .task-name .given .0 .1 .1 .0) (c .before .before .task-name .given .0 .1 .1 .1 .0) (entry-is e ∙ c .before .before .task-name .given .1))
 
 enum-known-lock-name : tie.Need-enum-known-lock-name Inv-loop μ-loop
 enum-known-lock-name c = search needs
 
 held-at-requires : tie.Need-held-at-requires Inv-loop μ-loop
-held-at-requires c κs = lock-room (file (at (c .before .before .before .before))) (at (c .before .before .before .before) .loop .c) (at (c .before .before .before .before) .loop .seen) (at (c .before .before .before .before) .loop .«open») (at (c .before .before .before .before) .loop .name) (at (c .before .before .before .before) .loop .period) (at (c .before .before .before .before) .loop .tasks) (at (c .before .before .before .before) .loop .all) (at (c .before .before .before .before) .loop .inv) (shape (c .before .before .before .before)) (behind (c .before .before .before .before)) (record-is (c .before .before .before .before)) (c .before .before .lock-name .given .0 .0) (c .before .before .lock-name .given .0 .1 .0) (c .before .before .lock-name .given .0 .1 .1 .0) (entry-is (c .before .before .before .before) ∙ c .before .before .lock-name .given .1) .0
+held-at-requires c κs =
+    let e = c .before .before .before .before in
+    let l = at e in
+    lock-room (file l) (l .loop .c) (l .loop .seen) (l .loop .«open») (l .loop .name) (l .loop .period) (l .loop .tasks) (l .loop .all) (l .loop .inv) (shape e) (behind e) (record-is e) (c .before .before .lock-name .given .0 .0) (c .before .before .lock-name .given .0 .1 .0) (c .before .before .lock-name .given .0 .1 .1 .0) (entry-is e ∙ c .before .before .lock-name .given .1) .0
 
 sub-tasks : tie.Need-sub-tasks Inv-loop μ-loop
-sub-tasks c = omega (arith, lock-room (file (at (c .before .before .before .before .before))) (at (c .before .before .before .before .before) .loop .c) (at (c .before .before .before .before .before) .loop .seen) (at (c .before .before .before .before .before) .loop .«open») (at (c .before .before .before .before .before) .loop .name) (at (c .before .before .before .before .before) .loop .period) (at (c .before .before .before .before .before) .loop .tasks) (at (c .before .before .before .before .before) .loop .all) (at (c .before .before .before .before .before) .loop .inv) (shape (c .before .before .before .before .before)) (behind (c .before .before .before .before .before)) (record-is (c .before .before .before .before .before)) (c .before .before .before .lock-name .given .0 .0) (c .before .before .before .lock-name .given .0 .1 .0) (c .before .before .before .lock-name .given .0 .1 .1 .0) (entry-is (c .before .before .before .before .before) ∙ c .before .before .before .lock-name .given .1))
+sub-tasks c =
+    let e = c .before .before .before .before .before in
+    let l = at e in
+    omega (arith, lock-room (file l) (l .loop .c) (l .loop .seen) (l .loop .«open») (l .loop .name) (l .loop .period) (l .loop .tasks) (l .loop .all) (l .loop .inv) (shape e) (behind e) (record-is e) (c .before .before .before .lock-name .given .0 .0) (c .before .before .before .lock-name .given .0 .1 .0) (c .before .before .before .lock-name .given .0 .1 .1 .0) (entry-is e ∙ c .before .before .before .lock-name .given .1))
 
 mul-tasks-2 : tie.Need-mul-tasks-2 Inv-loop μ-loop
-mul-tasks-2 c = omega (arith, lock-room (file (at (c .before .before .before .before .before))) (at (c .before .before .before .before .before) .loop .c) (at (c .before .before .before .before .before) .loop .seen) (at (c .before .before .before .before .before) .loop .«open») (at (c .before .before .before .before .before) .loop .name) (at (c .before .before .before .before .before) .loop .period) (at (c .before .before .before .before .before) .loop .tasks) (at (c .before .before .before .before .before) .loop .all) (at (c .before .before .before .before .before) .loop .inv) (shape (c .before .before .before .before .before)) (behind (c .before .before .before .before .before)) (record-is (c .before .before .before .before .before)) (c .before .before .before .lock-name .given .0 .0) (c .before .before .before .lock-name .given .0 .1 .0) (c .before .before .before .lock-name .given .0 .1 .1 .0) (entry-is (c .before .before .before .before .before) ∙ c .before .before .before .lock-name .given .1))
+mul-tasks-2 c =
+    let e = c .before .before .before .before .before in
+    let l = at e in
+    omega (arith, lock-room (file l) (l .loop .c) (l .loop .seen) (l .loop .«open») (l .loop .name) (l .loop .period) (l .loop .tasks) (l .loop .all) (l .loop .inv) (shape e) (behind e) (record-is e) (c .before .before .before .lock-name .given .0 .0) (c .before .before .before .lock-name .given .0 .1 .0) (c .before .before .before .lock-name .given .0 .1 .1 .0) (entry-is e ∙ c .before .before .before .lock-name .given .1))
 
 array-set-from-tasks-2 : tie.Need-array-set-from-tasks-2 Inv-loop μ-loop
-array-set-from-tasks-2 c = omega (arith, lock-room (file (at (c .before .before .before .before .before))) (at (c .before .before .before .before .before) .loop .c) (at (c .before .before .before .before .before) .loop .seen) (at (c .before .before .before .before .before) .loop .«open») (at (c .before .before .before .before .before) .loop .name) (at (c .before .before .before .before .before) .loop .period) (at (c .before .before .before .before .before) .loop .tasks) (at (c .before .before .before .before .before) .loop .all) (at (c .before .before .before .before .before) .loop .inv) (shape (c .before .before .before .before .before)) (behind (c .before .before .before .before .before)) (record-is (c .before .before .before .before .before)) (c .before .before .before .lock-name .given .0 .0) (c .before .before .before .lock-name .given .0 .1 .0) (c .before .before .before .lock-name .given .0 .1 .1 .0) (entry-is (c .before .before .before .before .before) ∙ c .before .before .before .lock-name .given .1))
+array-set-from-tasks-2 c =
+    let e = c .before .before .before .before .before in
+    let l = at e in
+    omega (arith, lock-room (file l) (l .loop .c) (l .loop .seen) (l .loop .«open») (l .loop .name) (l .loop .period) (l .loop .tasks) (l .loop .all) (l .loop .inv) (shape e) (behind e) (record-is e) (c .before .before .before .lock-name .given .0 .0) (c .before .before .before .lock-name .given .0 .1 .0) (c .before .before .before .lock-name .given .0 .1 .1 .0) (entry-is e ∙ c .before .before .before .lock-name .given .1))
 
 seen-lock-requires : tie.Need-seen-lock-requires Inv-loop μ-loop
-seen-lock-requires c κs = omega (arith, lock-room (file (at (c .before .before .before .before .before))) (at (c .before .before .before .before .before) .loop .c) (at (c .before .before .before .before .before) .loop .seen) (at (c .before .before .before .before .before) .loop .«open») (at (c .before .before .before .before .before) .loop .name) (at (c .before .before .before .before .before) .loop .period) (at (c .before .before .before .before .before) .loop .tasks) (at (c .before .before .before .before .before) .loop .all) (at (c .before .before .before .before .before) .loop .inv) (shape (c .before .before .before .before .before)) (behind (c .before .before .before .before .before)) (record-is (c .before .before .before .before .before)) (c .before .before .before .lock-name .given .0 .0) (c .before .before .before .lock-name .given .0 .1 .0) (c .before .before .before .lock-name .given .0 .1 .1 .0) (entry-is (c .before .before .before .before .before) ∙ c .before .before .before .lock-name .given .1))
+seen-lock-requires c κs =
+    let e = c .before .before .before .before .before in
+    let l = at e in
+    omega (arith, lock-room (file l) (l .loop .c) (l .loop .seen) (l .loop .«open») (l .loop .name) (l .loop .period) (l .loop .tasks) (l .loop .all) (l .loop .inv) (shape e) (behind e) (record-is e) (c .before .before .before .lock-name .given .0 .0) (c .before .before .before .lock-name .given .0 .1 .0) (c .before .before .before .lock-name .given .0 .1 .1 .0) (entry-is e ∙ c .before .before .before .lock-name .given .1))
 
 loop-less-3 : tie.Need-loop-less-3 Inv-loop μ-loop
 loop-less-3 c = shorter (c .before .before .before .before .before .before)
 
 loop-again-3 : tie.Need-loop-again-3 Inv-loop μ-loop
-loop-again-3 c = rw (c .seen-lock .ensures, c .before .held-at .ensures) (reading-lock (file (at (c .before .before .before .before .before .before))) (at (c .before .before .before .before .before .before) .loop .c) (at (c .before .before .before .before .before .before) .loop .seen) (at (c .before .before .before .before .before .before) .loop .«open») (at (c .before .before .before .before .before .before) .loop .name) (at (c .before .before .before .before .before .before) .loop .period) (at (c .before .before .before .before .before .before) .loop .tasks) (at (c .before .before .before .before .before .before) .loop .all) (at (c .before .before .before .before .before .before) .loop .inv) (shape (c .before .before .before .before .before .before)) (behind (c .before .before .before .before .before .before)) (record-is (c .before .before .before .before .before .before)) (c .before .before .before .before .lock-name .given .0 .0) (c .before .before .before .before .lock-name .given .0 .1 .0) (c .before .before .before .before .lock-name .given .0 .1 .1 .0) (entry-is (c .before .before .before .before .before .before) ∙ c .before .before .before .before .lock-name .given .1))
+loop-again-3 c =
+    let e = c .before .before .before .before .before .before in
+    let l = at e in
+    rw (c .seen-lock .ensures, c .before .held-at .ensures) (reading-lock (file l) (l .loop .c) (l .loop .seen) (l .loop .«open») (l .loop .name) (l .loop .period) (l .loop .tasks) (l .loop .all) (l .loop .inv) (shape e) (behind e) (record-is e) (c .before .before .before .before .lock-name .given .0 .0) (c .before .before .before .before .lock-name .given .0 .1 .0) (c .before .before .before .before .lock-name .given .0 .1 .1 .0) (entry-is e ∙ c .before .before .before .before .lock-name .given .1))
 
 enum-told-3 : tie.Need-enum-told-3 Inv-loop μ-loop
 enum-told-3 c = search needs
@@ -230,7 +267,10 @@ loop-less-4 : tie.Need-loop-less-4 Inv-loop μ-loop
 loop-less-4 c = shorter (c .before .before .before .before .before)
 
 loop-again-4 : tie.Need-loop-again-4 Inv-loop μ-loop
-loop-again-4 c = rw (c .seen-end .ensures, c .before .closed-part2 .ensures) (reading-end (file (at (c .before .before .before .before .before))) (at (c .before .before .before .before .before) .loop .c) (at (c .before .before .before .before .before) .loop .seen) (at (c .before .before .before .before .before) .loop .«open») (at (c .before .before .before .before .before) .loop .name) (at (c .before .before .before .before .before) .loop .period) (at (c .before .before .before .before .before) .loop .tasks) (at (c .before .before .before .before .before) .loop .all) (at (c .before .before .before .before .before) .loop .inv) (shape (c .before .before .before .before .before)) (behind (c .before .before .before .before .before)) (record-is (c .before .before .before .before .before)) (entry-is (c .before .before .before .before .before) ∙ c .before .before .before .enum-told3 .given .1))
+loop-again-4 c =
+    let e = c .before .before .before .before .before in
+    let l = at e in
+    rw (c .seen-end .ensures, c .before .closed-part2 .ensures) (reading-end (file l) (l .loop .c) (l .loop .seen) (l .loop .«open») (l .loop .name) (l .loop .period) (l .loop .tasks) (l .loop .all) (l .loop .inv) (shape e) (behind e) (record-is e) (entry-is e ∙ c .before .before .before .enum-told3 .given .1))
 
 pub read-file-spec : {M : Type 1} → statement M
 read-file-spec =
