@@ -3,6 +3,7 @@
 --   candidatesOf s k   == the kept pairs of part k, or the first no among 1 to 9, 12 and 10 for that part alone
 --   nameOf s k         == the name of part k, or the first no among 1 to 9 and 12
 --   supplyAnswer P Q t == the supply of (P,Q) in t ticks, or 12
+--   planQuestions, candidateQuestions, nameQuestions, supplyQuestions == what each of them asks, in this order, behind questions 1 to 9
 --   planned a, candidateList a, nameBytes a, supplied a == such an answer as the operation hands it over: a refusal has zeros everywhere else
 --   bufferAfter a out  == the lent bytes behind a plan: the listing and, behind it, what was there; all as it was on refusal
 -- Assumes nothing.

@@ -1,590 +1,9 @@
-// Supplies and weighings of the documents' figures and of the readings, and numbers past the limits. 'stdout' has what they should be.
+// Supplies and weighings of the documents' figures and of the readings, and numbers at and past the limits. 'stdout' has what they should be.
 use least::Frac;
 use libc::STDOUT_FILENO;
 use load::Row;
 use load::Rows;
 use load::Weighed;
-ghost use Prim.Native.Nat.{_≤_};
-
-// P, Q and t of each.
-const SUPPLIES: [u64; 195] = [
-    10,
-    3,
-    0,
-    10,
-    3,
-    14,
-    10,
-    3,
-    15,
-    10,
-    3,
-    17,
-    10,
-    3,
-    24,
-    10,
-    3,
-    25,
-    10,
-    10,
-    0,
-    10,
-    10,
-    10,
-    2,
-    1,
-    2,
-    2,
-    1,
-    3,
-    2,
-    1,
-    4,
-    2,
-    1,
-    5,
-    10,
-    1,
-    18,
-    10,
-    1,
-    19,
-    10,
-    1,
-    28,
-    10,
-    1,
-    29,
-    10,
-    1,
-    1000,
-    20,
-    12,
-    16,
-    20,
-    12,
-    17,
-    20,
-    12,
-    28,
-    20,
-    12,
-    36,
-    20,
-    12,
-    60,
-    20,
-    12,
-    80,
-    20,
-    11,
-    60,
-    20,
-    11,
-    80,
-    30,
-    8,
-    44,
-    30,
-    8,
-    45,
-    30,
-    8,
-    52,
-    30,
-    8,
-    53,
-    30,
-    8,
-    74,
-    30,
-    8,
-    75,
-    30,
-    8,
-    81,
-    30,
-    8,
-    82,
-    30,
-    7,
-    81,
-    60,
-    16,
-    162,
-    250,
-    101,
-    300,
-    250,
-    102,
-    300,
-    250,
-    104,
-    320,
-    250,
-    105,
-    300,
-    250,
-    105,
-    320,
-    250,
-    106,
-    300,
-    250,
-    111,
-    300,
-    250,
-    112,
-    300,
-    1466,
-    1150,
-    632,
-    1466,
-    1150,
-    1300,
-    1466,
-    1150,
-    3900,
-    1466,
-    1150,
-    6500,
-    1530,
-    1150,
-    760,
-    1530,
-    1150,
-    1300,
-    1530,
-    1150,
-    3900,
-    1530,
-    1150,
-    6500,
-    1530,
-    1150,
-    6800,
-    1760,
-    5,
-    22000,
-    1760,
-    6,
-    22000,
-    65535,
-    1,
-    65535,
-    65535,
-    65535,
-    65535,
-    1,
-    1,
-    0,
-    1,
-    1,
-    65535,
-    10,
-    0,
-    5,
-    10,
-    11,
-    5,
-    0,
-    0,
-    0,
-    65536,
-    1,
-    1,
-    65535,
-    1,
-    65536,
-    65536,
-    65536,
-    65536,
-    18446744073709551615,
-    18446744073709551615,
-    18446744073709551615,
-];
-
-// Of each the count of rows, then P, Q and X of four rows.
-const WEIGHINGS: [u64; 377] = [
-    2,
-    96,
-    2,
-    2,
-    20,
-    2,
-    1,
-    0,
-    0,
-    0,
-    0,
-    0,
-    0,
-    2,
-    20,
-    2,
-    1,
-    96,
-    2,
-    2,
-    0,
-    0,
-    0,
-    0,
-    0,
-    0,
-    2,
-    20,
-    2,
-    5,
-    12,
-    2,
-    1,
-    0,
-    0,
-    0,
-    0,
-    0,
-    0,
-    2,
-    20,
-    6,
-    3,
-    12,
-    2,
-    1,
-    0,
-    0,
-    0,
-    0,
-    0,
-    0,
-    1,
-    20,
-    2,
-    1,
-    0,
-    0,
-    0,
-    0,
-    0,
-    0,
-    0,
-    0,
-    0,
-    3,
-    500,
-    230,
-    74,
-    550,
-    80,
-    0,
-    1100,
-    120,
-    40,
-    0,
-    0,
-    0,
-    3,
-    50,
-    23,
-    0,
-    55,
-    8,
-    0,
-    110,
-    12,
-    0,
-    0,
-    0,
-    0,
-    4,
-    1000,
-    50,
-    0,
-    1000,
-    50,
-    0,
-    1000,
-    100,
-    0,
-    500,
-    50,
-    0,
-    4,
-    1000,
-    100,
-    0,
-    750,
-    150,
-    0,
-    304,
-    50,
-    0,
-    235,
-    100,
-    0,
-    4,
-    1000,
-    100,
-    0,
-    750,
-    150,
-    0,
-    238,
-    50,
-    0,
-    235,
-    100,
-    0,
-    4,
-    1000,
-    100,
-    0,
-    725,
-    175,
-    0,
-    238,
-    50,
-    0,
-    235,
-    100,
-    0,
-    4,
-    1000,
-    100,
-    0,
-    750,
-    150,
-    0,
-    235,
-    100,
-    0,
-    227,
-    50,
-    0,
-    4,
-    1000,
-    100,
-    0,
-    750,
-    150,
-    0,
-    235,
-    100,
-    0,
-    234,
-    50,
-    0,
-    4,
-    1000,
-    100,
-    0,
-    750,
-    150,
-    0,
-    235,
-    100,
-    0,
-    233,
-    50,
-    0,
-    2,
-    8,
-    1,
-    0,
-    4,
-    1,
-    0,
-    0,
-    0,
-    0,
-    0,
-    0,
-    0,
-    2,
-    4,
-    1,
-    0,
-    2,
-    1,
-    0,
-    0,
-    0,
-    0,
-    0,
-    0,
-    0,
-    2,
-    20,
-    8,
-    2,
-    20,
-    5,
-    0,
-    0,
-    0,
-    0,
-    0,
-    0,
-    0,
-    2,
-    20,
-    5,
-    1,
-    10,
-    2,
-    0,
-    0,
-    0,
-    0,
-    0,
-    0,
-    0,
-    2,
-    40,
-    6,
-    2,
-    10,
-    2,
-    1,
-    0,
-    0,
-    0,
-    0,
-    0,
-    0,
-    1,
-    10,
-    1,
-    65535,
-    0,
-    0,
-    0,
-    0,
-    0,
-    0,
-    0,
-    0,
-    0,
-    2,
-    10,
-    10,
-    10,
-    10,
-    0,
-    0,
-    0,
-    0,
-    0,
-    0,
-    0,
-    0,
-    1,
-    10,
-    0,
-    0,
-    0,
-    0,
-    0,
-    0,
-    0,
-    0,
-    0,
-    0,
-    0,
-    1,
-    65535,
-    65535,
-    0,
-    0,
-    0,
-    0,
-    0,
-    0,
-    0,
-    0,
-    0,
-    0,
-    1,
-    65535,
-    1,
-    65535,
-    0,
-    0,
-    0,
-    0,
-    0,
-    0,
-    0,
-    0,
-    0,
-    1,
-    65536,
-    1,
-    0,
-    0,
-    0,
-    0,
-    0,
-    0,
-    0,
-    0,
-    0,
-    0,
-    1,
-    10,
-    1,
-    65536,
-    0,
-    0,
-    0,
-    0,
-    0,
-    0,
-    0,
-    0,
-    0,
-    1,
-    10,
-    11,
-    0,
-    0,
-    0,
-    0,
-    0,
-    0,
-    0,
-    0,
-    0,
-    0,
-    0,
-    0,
-    0,
-    0,
-    0,
-    0,
-    0,
-    0,
-    0,
-    0,
-    0,
-    0,
-    0,
-    17,
-    0,
-    0,
-    0,
-    0,
-    0,
-    0,
-    0,
-    0,
-    0,
-    0,
-    0,
-    0,
-];
 
 fn print_number(before: &[u8], n: u64) {
     io::write_all(STDOUT_FILENO, before);
@@ -603,29 +22,110 @@ fn print_supply(p: u64, q: u64, t: u64) {
     io::write_all(STDOUT_FILENO, b"\n");
 }
 
-fn print_supplies() {
-    let mut i = 0;
-    while i < 65 {
-        let at = 3 * i;
-        print_supply(SUPPLIES[at], SUPPLIES[at + 1], SUPPLIES[at + 2]);
-        i += 1;
+// Example K, and t = 0.
+fn supplies_example_k() {
+    print_supply(10, 3, 0);
+    print_supply(10, 3, 14);
+    print_supply(10, 3, 15);
+    print_supply(10, 3, 17);
+    print_supply(10, 3, 24);
+    print_supply(10, 3, 25);
+    print_supply(10, 10, 0);
+    print_supply(10, 10, 10);
+}
+
+// Document 000: B6, B7, B13, B14, B15.
+fn supplies_figures_of_000() {
+    print_supply(2, 1, 2);
+    print_supply(2, 1, 3);
+    print_supply(2, 1, 4);
+    print_supply(2, 1, 5);
+    print_supply(10, 1, 18);
+    print_supply(10, 1, 19);
+    print_supply(10, 1, 28);
+    print_supply(10, 1, 29);
+    print_supply(10, 1, 1000);
+    print_supply(20, 12, 16);
+    print_supply(20, 12, 17);
+    print_supply(20, 12, 28);
+    print_supply(20, 12, 36);
+    print_supply(20, 12, 60);
+    print_supply(20, 12, 80);
+    print_supply(20, 11, 60);
+    print_supply(20, 11, 80);
+    print_supply(30, 8, 44);
+    print_supply(30, 8, 45);
+    print_supply(30, 8, 52);
+    print_supply(30, 8, 53);
+    print_supply(30, 8, 74);
+    print_supply(30, 8, 75);
+    print_supply(30, 8, 81);
+    print_supply(30, 8, 82);
+    print_supply(30, 7, 81);
+    print_supply(60, 16, 162);
+    print_supply(1760, 5, 22000);
+    print_supply(1760, 6, 22000);
+}
+
+// Document 001: A3.
+fn supplies_figures_of_001() {
+    print_supply(250, 101, 300);
+    print_supply(250, 102, 300);
+    print_supply(250, 104, 320);
+    print_supply(250, 105, 300);
+    print_supply(250, 105, 320);
+    print_supply(250, 106, 300);
+    print_supply(250, 111, 300);
+    print_supply(250, 112, 300);
+}
+
+// Document 004: C3.
+fn supplies_figures_of_004() {
+    print_supply(1466, 1150, 632);
+    print_supply(1466, 1150, 1300);
+    print_supply(1466, 1150, 3900);
+    print_supply(1466, 1150, 6500);
+    print_supply(1530, 1150, 760);
+    print_supply(1530, 1150, 1300);
+    print_supply(1530, 1150, 3900);
+    print_supply(1530, 1150, 6500);
+    print_supply(1530, 1150, 6800);
+}
+
+// At the limits and past them.
+fn supplies_limits() {
+    print_supply(65535, 1, 65535);
+    print_supply(65535, 65535, 65535);
+    print_supply(1, 1, 0);
+    print_supply(1, 1, 65535);
+    print_supply(10, 0, 5);
+    print_supply(10, 11, 5);
+    print_supply(0, 0, 0);
+    print_supply(65536, 1, 1);
+    print_supply(65535, 1, 65536);
+    print_supply(65536, 65536, 65536);
+    print_supply(
+        18446744073709551615,
+        18446744073709551615,
+        18446744073709551615,
+    );
+}
+
+fn row(period: u64, budget: u64, holding: u64) -> Row {
+    Row {
+        period,
+        budget,
+        holding,
     }
 }
 
-// The row whose numbers stand at this place.
-fn row_at(at: usize) -> Row {
-    if 374 < at {
-        return Row {
-            period: 0,
-            budget: 0,
-            holding: 0,
-        };
-    }
-    Row {
-        period: WEIGHINGS[at],
-        budget: WEIGHINGS[at + 1],
-        holding: WEIGHINGS[at + 2],
-    }
+fn rows_of(a: Row, b: Row, c: Row, d: Row, count: usize) -> Rows {
+    let mut rows = [row(0, 0, 0); 16];
+    rows[0] = a;
+    rows[1] = b;
+    rows[2] = c;
+    rows[3] = d;
+    Rows { rows, count }
 }
 
 fn print_row(r: Row) {
@@ -634,33 +134,18 @@ fn print_row(r: Row) {
     print_number(b",", r.holding);
 }
 
-fn print_rows(at: usize, count: u64)
-    requires { ⌜ at ≤ 365 ⌝ }
-{
+// The first four rows.
+fn print_rows(rows: Rows) {
+    let count = rows.count;
     let mut k = 0;
     while k < 4 {
-        if count <= k as u64 {
+        if count <= k {
             return;
         }
-        print_row(row_at(at + 3 * k));
+        let r = rows.rows[k];
+        print_row(r);
         k += 1;
     }
-}
-
-fn rows_at(at: usize, count: usize) -> Rows
-    requires { ⌜ at ≤ 365 ⌝ }
-{
-    let none = Row {
-        period: 0,
-        budget: 0,
-        holding: 0,
-    };
-    let mut rows = [none; 16];
-    rows[0] = row_at(at);
-    rows[1] = row_at(at + 3);
-    rows[2] = row_at(at + 6);
-    rows[3] = row_at(at + 9);
-    Rows { rows, count }
 }
 
 fn print_bound(b: Frac) {
@@ -668,11 +153,11 @@ fn print_bound(b: Frac) {
     print_number(b"/", b.den);
 }
 
-fn print_bounds(w: Weighed, count: u64) {
+fn print_bounds(w: Weighed, count: usize) {
     let bounds = w.bounds;
     let mut k = 0;
     while k < 16 {
-        if count <= k as u64 {
+        if count <= k {
             return;
         }
         let b = bounds[k];
@@ -681,20 +166,16 @@ fn print_bounds(w: Weighed, count: u64) {
     }
 }
 
-fn print_weighing(at: usize) {
-    if 364 < at {
-        return;
-    }
-    let count = WEIGHINGS[at];
+fn print_weighing(rows: Rows) {
     io::write_all(STDOUT_FILENO, b"weigh");
-    print_rows(at + 1, count);
-    let w = planner::weigh(rows_at(at + 1, count as usize));
+    print_rows(rows);
+    let w = planner::weigh(rows);
     let o = w.outcome;
     let number = refusal::number(o);
     print_number(b"\t= ", number);
     print_number(b"\t", refusal::place(o));
     if number == 0 {
-        print_bounds(w, count);
+        print_bounds(w, rows.count);
         let load = w.load;
         print_bound(load);
         print_number(b"\t", w.row);
@@ -702,15 +183,118 @@ fn print_weighing(at: usize) {
     io::write_all(STDOUT_FILENO, b"\n");
 }
 
-fn print_weighings() {
-    let mut i = 0;
-    while i < 29 {
-        print_weighing(13 * i);
-        i += 1;
-    }
+fn weigh1(a: Row) {
+    let none = row(0, 0, 0);
+    print_weighing(rows_of(a, none, none, none, 1));
+}
+
+fn weigh2(a: Row, b: Row) {
+    let none = row(0, 0, 0);
+    print_weighing(rows_of(a, b, none, none, 2));
+}
+
+fn weigh3(a: Row, b: Row, c: Row) {
+    print_weighing(rows_of(a, b, c, row(0, 0, 0), 3));
+}
+
+fn weigh4(a: Row, b: Row, c: Row, d: Row) {
+    print_weighing(rows_of(a, b, c, d, 4));
+}
+
+// Document 001: A5, A6, A9.
+fn weighings_figures_of_001() {
+    weigh2(row(96, 2, 2), row(20, 2, 1));
+    weigh2(row(20, 2, 1), row(96, 2, 2));
+    weigh2(row(20, 2, 5), row(12, 2, 1));
+    weigh2(row(20, 6, 3), row(12, 2, 1));
+}
+
+// Document 000: B7, B19.
+fn weighings_figures_of_000() {
+    weigh1(row(20, 2, 1));
+    weigh3(row(500, 230, 74), row(550, 80, 0), row(1100, 120, 40));
+    weigh3(row(50, 23, 0), row(55, 8, 0), row(110, 12, 0));
+}
+
+// Document 004: C5.
+fn weighings_figures_of_004() {
+    weigh4(
+        row(1000, 50, 0),
+        row(1000, 50, 0),
+        row(1000, 100, 0),
+        row(500, 50, 0),
+    );
+    weigh4(
+        row(1000, 100, 0),
+        row(750, 150, 0),
+        row(304, 50, 0),
+        row(235, 100, 0),
+    );
+    weigh4(
+        row(1000, 100, 0),
+        row(750, 150, 0),
+        row(238, 50, 0),
+        row(235, 100, 0),
+    );
+    weigh4(
+        row(1000, 100, 0),
+        row(725, 175, 0),
+        row(238, 50, 0),
+        row(235, 100, 0),
+    );
+    weigh4(
+        row(1000, 100, 0),
+        row(750, 150, 0),
+        row(235, 100, 0),
+        row(227, 50, 0),
+    );
+    weigh4(
+        row(1000, 100, 0),
+        row(750, 150, 0),
+        row(235, 100, 0),
+        row(234, 50, 0),
+    );
+    weigh4(
+        row(1000, 100, 0),
+        row(750, 150, 0),
+        row(235, 100, 0),
+        row(233, 50, 0),
+    );
+}
+
+// Which t a bound has, and which row the load.
+fn weighings_readings() {
+    weigh2(row(8, 1, 0), row(4, 1, 0));
+    weigh2(row(4, 1, 0), row(2, 1, 0));
+    weigh2(row(20, 8, 2), row(20, 5, 0));
+    weigh2(row(20, 5, 1), row(10, 2, 0));
+    weigh2(row(40, 6, 2), row(10, 2, 1));
+}
+
+// At the limits and past them.
+fn weighings_limits() {
+    weigh1(row(10, 1, 65535));
+    weigh2(row(10, 10, 10), row(10, 0, 0));
+    weigh1(row(10, 0, 0));
+    weigh1(row(65535, 65535, 0));
+    weigh1(row(65535, 1, 65535));
+    weigh1(row(65536, 1, 0));
+    weigh1(row(10, 1, 65536));
+    weigh1(row(10, 11, 0));
+    let none = row(0, 0, 0);
+    print_weighing(rows_of(none, none, none, none, 0));
+    print_weighing(rows_of(none, none, none, none, 17));
 }
 
 fn main() {
-    print_supplies();
-    print_weighings();
+    supplies_example_k();
+    supplies_figures_of_000();
+    supplies_figures_of_001();
+    supplies_figures_of_004();
+    supplies_limits();
+    weighings_figures_of_001();
+    weighings_figures_of_000();
+    weighings_figures_of_004();
+    weighings_readings();
+    weighings_limits();
 }

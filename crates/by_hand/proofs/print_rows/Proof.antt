@@ -1,4 +1,4 @@
--- `by_hand::print_rows` ends: one row a turn.
+-- `by_hand::print_rows` ends, and reads no row past the array.
 -- Assumes nothing.
 use Prim.Native.Nat.{_-_}
 use borrow.Author.Needs.{needs}
@@ -6,10 +6,10 @@ use Rattle.by_hand.proofs.print_rows.Statement.{statement}
 use Rattle.by_hand.proofs.print_rows.Tie as tie
 
 abbrev Inv-loop : tie.InvT-loop
-Inv-loop at count k₀ k = Unit {0}
+Inv-loop rows count k₀ k = Unit {0}
 
 abbrev μ-loop : tie.MeasureT-loop
-μ-loop at count k₀ k = 4 - k
+μ-loop rows count k₀ k = 4 - k
 
 loop-holds : tie.Need-loop-holds Inv-loop μ-loop
 loop-holds c = search needs
@@ -17,14 +17,11 @@ loop-holds c = search needs
 returns : tie.Need-returns Inv-loop μ-loop
 returns c = search needs
 
-mul-row-at : tie.Need-mul-row-at Inv-loop μ-loop
-mul-row-at c = search needs
+mul-r : tie.Need-mul-r Inv-loop μ-loop
+mul-r c = search needs
 
-add-row-at : tie.Need-add-row-at Inv-loop μ-loop
-add-row-at c = search needs
-
-row-at-requires : tie.Need-row-at-requires Inv-loop μ-loop
-row-at-requires c κs = search needs
+element-copy-out-r : tie.Need-element-copy-out-r Inv-loop μ-loop
+element-copy-out-r c = search needs
 
 print-row-requires : tie.Need-print-row-requires Inv-loop μ-loop
 print-row-requires c κs = search needs
@@ -49,9 +46,8 @@ print-rows-spec =
     μ-loop
     loop-holds
     returns
-    mul-row-at
-    add-row-at
-    row-at-requires
+    mul-r
+    element-copy-out-r
     print-row-requires
     add-k
     loop-less
