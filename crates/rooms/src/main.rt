@@ -1,5 +1,6 @@
-// Example A planned in rooms about as long as its listing, which has 92 bytes. 'stdout' has what each answer should be: number, place and bytes
-// counted, and behind them the lent bytes, each of which was `.` before.
+// Example A planned in rooms about as long as its listing, which has 92 bytes; a listing of 35 bytes in as many and in one less; a file that is refused
+// with 10 in no room at all. 'stdout' has what each answer should be: number, place and bytes counted, and behind them the lent bytes, each of which was `.`
+// before.
 use libc::STDIN_FILENO;
 use libc::STDOUT_FILENO;
 
@@ -27,8 +28,22 @@ fn print_rooms(file: &[u8]) {
     print_plan(file, &mut more);
 }
 
+fn print_readings() {
+    let one: &[u8] = b"part\tp\t10\ntask\tt\t10\t10\t10\nend\n";
+    let mut short = [46u8; 34];
+    print_plan(one, &mut short);
+    let mut enough = [46u8; 35];
+    print_plan(one, &mut enough);
+    let mut none = [46u8; 0];
+    print_plan(
+        b"part\tp\t10\ntask\tt\t10\t6\t10\ntask\tu\t10\t6\t10\nend\n",
+        &mut none,
+    );
+}
+
 fn main() {
     let mut file = [0u8; 32769];
     let n = io::read_full(STDIN_FILENO, &mut file);
     print_rooms(&file[..n]);
+    print_readings();
 }
