@@ -415,6 +415,23 @@ fn a_with_card(period: u64) -> Vec<u8> {
     w(&lines)
 }
 
+/// Table 1 of document 001, all times doubled.
+fn table_1() -> Vec<u8> {
+    w(&[
+        "part s 250",
+        "task t1 1500 16 1500",
+        "lock r2 8",
+        "task t2 1300 100 1300",
+        "lock r1 10",
+        "task t3 1200 20 1200",
+        "task t4 1000 70 1000",
+        "lock r1 20",
+        "task t5 320 2 320",
+        "task t6 300 4 300",
+        "end",
+    ])
+}
+
 /// The first line of the listing.
 fn load_line(file: &[u8]) -> String {
     let listing = lossy(&plan(file, PROGRAM_ROOM).expect("a plan"));
@@ -443,20 +460,7 @@ fn examples_a_to_l() {
     assert_eq!(load_line(&a_with_card(10)), "load card 10 10"); // C
     assert_eq!(load_line(&a_with_card(9)), "load card 9 9"); // D
     assert_eq!(planned(&a_with_card(8)), (11, 0)); // E
-    let table_1 = w(&[
-        "part s 250",
-        "task t1 1500 16 1500",
-        "lock r2 8",
-        "task t2 1300 100 1300",
-        "lock r1 10",
-        "task t3 1200 20 1200",
-        "task t4 1000 70 1000",
-        "lock r1 20",
-        "task t5 320 2 320",
-        "task t6 300 4 300",
-        "end",
-    ]);
-    assert_eq!(kept(&table_1, 1), [(102, 26), (105, 24), (112, 20)]); // F
+    assert_eq!(kept(&table_1(), 1), [(102, 26), (105, 24), (112, 20)]); // F
     assert_eq!(
         weighed(&[(96, 2, 2), (20, 2, 1)]),
         (vec![(19, 96), (5, 20)], 2, (5, 20))
@@ -760,23 +764,6 @@ fn n2_n7_n8_permission_and_least_budgets_do_not_show() {
     }
 }
 
-/// Table 1 of document 001, all times doubled.
-fn table_1() -> Vec<u8> {
-    w(&[
-        "part s 250",
-        "task t1 1500 16 1500",
-        "lock r2 8",
-        "task t2 1300 100 1300",
-        "lock r1 10",
-        "task t3 1200 20 1200",
-        "task t4 1000 70 1000",
-        "lock r1 20",
-        "task t5 320 2 320",
-        "task t6 300 4 300",
-        "end",
-    ])
-}
-
 #[test]
 fn a3_b11_every_setting_of_table_1() {
     // r1, r2, X, least Q, blocking of tasks 1 to 6
@@ -818,7 +805,6 @@ fn a3_b11_every_setting_of_table_1() {
         // Lemma 5: the larger of the least budgets with only one ceiling raised.
         assert_eq!(least(r1, r2), least(r1, 1).max(least(4, r2)));
     }
-    assert_eq!(kept(&table_1(), 1), [(102, 26), (105, 24), (112, 20)]);
 }
 
 /// The least budget that supplies `need` ticks by t: document 000, Lemma 1 and Algorithm 1, in whole
