@@ -69,7 +69,7 @@ module _ (P Q b : ℕ) (task : Task) (higher : List Task) where
   module _ (apart : Separated higher) (some : 1 ≤ task .cost) (o : 1 ≤ Q) (u : Q ≤ P) where
     need-mono : Mono (needOf b task higher)
     unfolding needOf
-    need-mono v w l = add-le-add (add-le-add (le-refl (task .cost)) (demand-mono apart v w l)) (le-refl b)
+    need-mono v w l = add-le-add (add-le-add (le-refl (task .cost)) (demand-mono higher apart v w l)) (le-refl b)
 
     pub need-some : (t : ℕ) → 1 ≤ needOf b task higher t
     unfolding needOf

@@ -1,18 +1,18 @@
 -- Laws of the local test: the paper's words, and that a greater budget passes where a smaller one does.
 --   Met P Q blocking task higher == some t, 1 ≤ t ≤ D_i, has C_i + Σ_{k>i} ⌈t/T_k⌉×C_k + blocking ≤ supply(t)
 -- Assumes nothing.
-use Prim.Native.Nat.{ℕ, suc, _+_, _-_, _≤_, _<_}
+use Prim.Native.Nat.{ℕ, _+_, _≤_, _<_}
 use native.Mathlib.Nat.{le-refl}
 use native.Mathlib.Omega.{arith}
-use mathlib.Core.Path.{_≡_, sym, ap, _∙_}
+use mathlib.Core.Path.{_≡_}
 use mathlib.Core.Bool.{true, false}
 use mathlib.Core.List.{List, _∷_, _++_, reverse}
 use mathlib.Core.Logic.{_↔_}
 use borrow.Author.Tests.{le-leb, leb-true}
-use Rattle.least.specs.declared.Least.the-variants.{At, Nothing}
-use Rattle.least.specs.Search.{leastFrom, IsLeast}
+use Rattle.least.specs.declared.Least.the-variants.{At}
+use Rattle.least.specs.Search.{IsLeast}
 use Rattle.least.proofs.Search.{least-iff, any-iff}
-use Rattle.least.proofs.Bisect.{least-after, none-rising}
+use Rattle.least.proofs.Bisect.{least-after}
 use Rattle.least.proofs.Along.{along-iff}
 use Rattle.supply.specs.Supply.{supplyOf}
 use Rattle.supply.proofs.SupplyLaws.{supply-mono-Q}
@@ -72,10 +72,3 @@ module _ (P : ℕ) (ts : List Task) (m : ℕ) (σ : Setting) where
   pub budget-after : (Q : ℕ) → Q < P → passes P ts m σ Q ≡ false → passes P ts m σ (Q + 1) ≡ true → leastBudget P ts m σ ≡ At (Q + 1)
   unfolding leastBudget
   budget-after Q l f t = least-after (passes P ts m σ) P Q passes-mono-Q l f t
-
-  pub budget-one : 1 ≤ P → passes P ts m σ 1 ≡ true → leastBudget P ts m σ ≡ At 1
-  budget-one l t = budget-iff 1 .1 (record { positive = omega arith; passes = t; first = λ v p q. p }, l)
-
-  pub budget-none : passes P ts m σ P ≡ false → leastBudget P ts m σ ≡ Nothing
-  unfolding leastBudget
-  budget-none f = let e : suc P - 1 ≡ P = omega arith in ap (leastFrom (passes P ts m σ) 1) (sym e) ∙ none-rising (passes P ts m σ) 1 P (omega arith) passes-mono-Q f

@@ -25,7 +25,7 @@ fn passing_time(
     let own = costs[i] + b;
     let mut t = start;
     while t <= deadline {
-        let need = own + task_set::demand_above(separations, costs, n, i + 1, t);
+        let need = own + demand::demand_from(separations, costs, n, i + 1, t);
         if deadline < need {
             return Least::Nothing;
         }

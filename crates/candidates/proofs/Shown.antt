@@ -5,7 +5,7 @@
 use Prim.Native.Nat.{ℕ, suc, _-_, _≤_}
 use native.Mathlib.Nat.{le-refl, le-trans, le-of-eq}
 use native.Mathlib.Omega.{arith}
-use mathlib.Core.Path.{_≡_, refl, sym, ap, _∙_}
+use mathlib.Core.Path.{_≡_, refl, ap, _∙_}
 use mathlib.Core.Bool.{true, false≢true}
 use mathlib.Core.Logic.{⊎-elim, _↔_}
 use mathlib.Core.List.{List, [], _∷_, map, List·Memᴰ, List·Memᴰ·head}
@@ -114,25 +114,6 @@ module _ (ts : List Task) (x l : ℕ) where
   pub missed-none : lowestWithin ≡ Nothing → (r : ℕ) → Within ts x l r → ⊥
   missed-none e r k = let f = found-first r k in let z : _≡_ {A = ℕ} 0 1 = cc (f .1) in omega arith
 
-  pub missed-shown : lowestWithin ≡ Nothing → shownCeiling ts x l ≡ 0
-  unfolding shownCeiling numberOr0
-  missed-shown e = ap numberOr0 e
-
-  -- what is shown tells whether a ceiling was found, where the lock has a user: 0 stands for none
-  pub positive-found : 1 ≤ shownCeiling ts x l → lowestWithin ≡ At (shownCeiling ts x l)
-  positive-found h = go lowestWithin refl
-    where
-      go : (a : Least) → lowestWithin ≡ a → lowestWithin ≡ At (shownCeiling ts x l)
-      go (At r) e = e ∙ ap At (sym (found-shown r e))
-      go Nothing e = absurd (omega (arith, missed-shown e))
-
-  pub zero-missed : 1 ≤ lowestCeiling l ts → shownCeiling ts x l ≡ 0 → lowestWithin ≡ Nothing
-  zero-missed h z = go lowestWithin refl
-    where
-      go : (a : Least) → lowestWithin ≡ a → lowestWithin ≡ Nothing
-      go (At r) e = absurd (omega (arith, found-within r e .low))
-      go Nothing e = e
-
 -- all locks have a ceiling that is held for at most x: they make a permitted setting with X ≤ x
 module _ (ts : List Task) (m x : ℕ) (found : (l : ℕ) → 1 ≤ l → l ≤ m → (r : ℕ) × (lowestWithin ts x l ≡ At r)) where
   all-found : AllWithin ts m x (shownCeiling ts x)
@@ -181,15 +162,6 @@ module _ (P : ℕ) (ts : List Task) (m : ℕ) where
 
   pub no-budget-below : (x : ℕ) → leastBudget P ts m (shownCeiling ts x) ≡ Nothing → (c : Pair) → Candidate P ts m c → c .holding ≤ x → ⊥
   no-budget-below x e c d u = let f = candidate-shown x c d u in let z : _≡_ {A = ℕ} 0 1 = cc (f .1) in omega arith
-
-  -- a smaller x needs no smaller budget
-  pub budget-rises : (x y Q R : ℕ) → y ≤ x → leastBudget P ts m (shownCeiling ts x) ≡ At Q → leastBudget P ts m (shownCeiling ts y) ≡ At R
-      → (σ : Setting) → Permitted ts m σ → holdingTimeOf ts m σ ≤ y → Q ≤ R
-  budget-rises x y Q R h e f σ ok u =
-      let d : Candidate P ts m (pair R (holdingTimeOf ts m (shownCeiling ts y))) = record { setting = shownCeiling ts y; allowed = shown-permitted ts m y σ ok u; holding = refl; budget = f } in
-      let s = candidate-shown x _ d (le-trans (shown-holding ts m y σ ok u) h) in
-      let same : s .0 ≡ Q = cc (s .1) in
-      omega (arith, s .2)
 
   -- the ceilings shown for a kept pair are its own: they have its X and its budget
   pub kept-shown : (c : Pair) → IsKept P ts m c

@@ -13,7 +13,7 @@ abbrev pub holdNeed : List Task → ℕ → ℕ → ℕ → ℕ
 holdNeed ts g r w = g + demandIn (drop r ts) w
 
 pub need-mono : (ts : List Task) → Separated ts → (g r : ℕ) → Mono (holdNeed ts g r)
-need-mono ts apart g r v w l = add-le-add (le-refl g) (demand-mono (separated-drop r apart) v w l)
+need-mono ts apart g r v w l = add-le-add (le-refl g) (demand-mono (drop r ts) (separated-drop r ts apart) v w l)
 
 pub need-from : (ts : List Task) (g r v : ℕ) → g ≤ holdNeed ts g r v
 need-from ts g r v = le-add-right g _

@@ -2,25 +2,16 @@
 -- Assumes nothing.
 use Prim.Native.Nat.{ℕ}
 use mathlib.Core.Path.{_≡_, ap}
-use mathlib.Core.Bool.{_&&_}
 use mathlib.Core.List.{List}
-use lib.Dec.{leb}
-use lib.ListN.{length}
 use Rattle.least.specs.Search.{numberOr0}
 use Rattle.least.specs.Lists.{greatest, range}
 use Rattle.least.proofs.Lists.{every-same, map-same}
 use Rattle.task_set.specs.declared.Task.{Task}
-use Rattle.task_set.specs.Tasks.{lowestCeiling}
 use Rattle.task_set.specs.Blocking.{Setting}
 use Rattle.task_set.proofs.SettingsAgree.{Agree, agree-in}
-use Rattle.holding.specs.Holding.{holdingOf, inRange, exists, permitted, holdingTimeOf}
+use Rattle.holding.specs.Holding.{holdingOf, exists, permitted, holdingTimeOf}
 
 module _ (ts : List Task) (m : ℕ) (σ τ : Setting) (same : Agree m σ τ) where
-  pub inRange-agree : inRange ts m σ ≡ inRange ts m τ
-  unfolding inRange
-  inRange-agree =
-      every-same _ _ (range 1 m) (λ l k. ap (λ c. leb (lowestCeiling l ts) c && leb c (length ts)) (agree-in m σ τ same l k))
-
   pub permitted-agree : permitted ts m σ ≡ permitted ts m τ
   unfolding permitted
   permitted-agree = every-same _ _ (range 1 m) (λ l k. ap (λ c. exists (holdingOf ts l c)) (agree-in m σ τ same l k))

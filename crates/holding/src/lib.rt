@@ -23,7 +23,7 @@ pub fn hold(
             if limit < w {
                 break 'search Least::Nothing;
             }
-            let next = g + task_set::demand_above(separations, costs, n, r, w);
+            let next = g + demand::demand_from(separations, costs, n, r, w);
             if next <= w {
                 break w;
             }

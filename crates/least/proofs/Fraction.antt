@@ -80,9 +80,6 @@ pub ⊑-noBound : (a : Frac) → a ⊑ noBound
 pub ⊏-or-⊑ : (a b : Frac) → (a ⊏ b) ⊎ (b ⊑ a)
 ⊏-or-⊑ a b = cond-lt {A = Unit {0}} (λ _. (a ⊏ b) ⊎ (b ⊑ a)) (a .num * b .den) (b .num * a .den) {x = tt} {y = tt} (λ h. inl (record { cross = h })) (λ h. inr (record { cross = h }))
 
-pub ⊑-total : (a b : Frac) → (a ⊑ b) ⊎ (b ⊑ a)
-⊑-total a b = ⊎-elim (λ h. inl (⊏-⊑ h)) inr (⊏-or-⊑ a b)
-
 pub ⊏-trans : {a b c : Frac} → Ok a → a ⊏ b → b ⊏ c → a ⊏ c
 ⊏-trans {a} {b} {c} ok h k = ⊎-elim (λ l. l) (λ g. absurd (not-⊏ k (⊑-trans ok g (⊏-⊑ h)))) (⊏-or-⊑ a c)
 
@@ -146,15 +143,6 @@ greater-lt h = simp (lt-ltb _ _ (h .cross))
 pub greater-ge : {a b : Frac} → b ⊑ a → greater a b ≡ a
 unfolding greater
 greater-ge h = simp (le-ltb _ _ (h .cross))
-
-pub greater-assoc : (a b c : Frac) → Ok a → Ok b → greater (greater a b) c ≡ greater a (greater b c)
-greater-assoc a b c oka okb = go (⊏-or-⊑ a b) (⊏-or-⊑ b c)
-  where
-    go : (a ⊏ b) ⊎ (b ⊑ a) → (b ⊏ c) ⊎ (c ⊑ b) → greater (greater a b) c ≡ greater a (greater b c)
-    go (inl h) (inl k) = rw (greater-lt h, greater-lt k, greater-lt (⊏-trans oka h k))
-    go (inl h) (inr k) = rw (greater-lt h, greater-ge k, greater-lt h)
-    go (inr h) (inl k) = rw (greater-ge h, greater-lt k)
-    go (inr h) (inr k) = rw (greater-ge h, greater-ge k, greater-ge h, greater-ge (⊑-trans okb k h))
 
 -- finite fractions
 pub noBound-not-finite : Finite noBound → ⊥

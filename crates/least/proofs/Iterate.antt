@@ -6,12 +6,12 @@ use native.Mathlib.Nat.{le-trans, lt-of-lt-of-le}
 use native.Mathlib.Omega.{arith}
 use native.Mathlib.Decide.{decLt}
 use mathlib.Core.Path.{_≡_}
-use mathlib.Core.Bool.{Bool, true, false}
+use mathlib.Core.Bool.{Bool}
 use borrow.Author.Tests.{le-leb, lt-leb}
 use lib.Dec.{leb}
 use Rattle.least.specs.declared.Least.the-variants.{At, Nothing}
-use Rattle.least.specs.Search.{leastFrom, anyFrom}
-use Rattle.least.proofs.Search.{NoneIn, least-at, least-nothing, any-true, any-false}
+use Rattle.least.specs.Search.{leastFrom}
+use Rattle.least.proofs.Search.{NoneIn, least-at, least-nothing}
 
 abbrev pub Mono : (ℕ → ℕ) → Type 0
 Mono f = (v w : ℕ) → v ≤ w → f v ≤ f w
@@ -54,10 +54,3 @@ past-limit f w limit uns l = least-nothing (settles f) limit 1 (none-settles f w
 pub at-rest : (f : ℕ → ℕ) (w limit : ℕ) → Unsolved f w → 1 ≤ w → w ≤ limit → f w ≤ w → leastFrom (settles f) 1 limit ≡ At w
 at-rest f w limit uns p l h =
     least-at (settles f) limit 1 w (record { from = p; below = omega arith; passes = le-leb (f w) w h; before = none-settles f w w uns (omega arith) })
-
--- the same where only the existence is asked
-pub past-any : (f : ℕ → ℕ) (w limit : ℕ) → Unsolved f w → limit < w → anyFrom (settles f) 1 limit ≡ false
-past-any f w limit uns l = any-false (settles f) limit 1 (none-settles f w (1 + limit) uns (omega arith))
-
-pub rest-any : (f : ℕ → ℕ) (w limit : ℕ) → 1 ≤ w → w ≤ limit → f w ≤ w → anyFrom (settles f) 1 limit ≡ true
-rest-any f w limit p l h = any-true (settles f) limit 1 w p (omega arith) (le-leb (f w) w h)

@@ -96,9 +96,6 @@ module _ {A : Type 0} where
       go true k ih = every-pass test y (ys ++ (x ∷ [])) k ∙ ih (sym (every-pass test y ys k) ∙ e)
       go false k ih = absurd (false≢true (sym (every-fail test y ys k) ∙ e))
 
-  pub every-iff : (test : A → Bool) (xs : List A) → (every test xs ≡ true) ↔ ((x : A) → List·Memᴰ x xs → test x ≡ true)
-  every-iff test xs = ((λ e x m. every-member test xs e m), every-all test xs)
-
   -- an element that does not pass
   pub every-not : (test : A → Bool) (xs : List A) → every test xs ≡ false → (x : A) × List·Memᴰ x xs × (test x ≡ false)
   unfolding every
@@ -213,9 +210,6 @@ module _ {A : Type 0} where
   unfolding joined
   joined-of {x} (ys ∷ yss) (List·Memᴰ·head q) m = Memᴰ·append-left (joined yss) (subst (List·Memᴰ x) q m)
   joined-of (ys ∷ yss) (List·Memᴰ·tail k) m = Memᴰ·append-right ys (joined-of yss k m)
-
-  pub joined-iff : (x : A) (xss : List (List A)) → List·Memᴰ x (joined xss) ↔ ((xs : List A) × List·Memᴰ xs xss × List·Memᴰ x xs)
-  joined-iff x xss = (joined-member xss, λ h. joined-of xss (h .1) (h .2))
 
   -- a list without members
   pub no-member : (xs : List A) → ((x : A) → List·Memᴰ x xs → ⊥) → xs ≡ []

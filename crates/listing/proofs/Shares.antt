@@ -6,7 +6,7 @@ use native.Mathlib.Omega.{arith}
 use mathlib.Core.Path.{_≡_, refl, sym, ap, subst, _∙_}
 use mathlib.Core.Bool.{Bool, true, false}
 use mathlib.Core.List.{List, [], _∷_, _++_, map, append-nil}
-use lib.ListN.{length, take, drop, getD, length-append, drop-of-length-le}
+use lib.ListN.{length, take, drop, getD, length-append}
 use lib.Seq.{drop-cons}
 use Rattle.least.specs.Lists.{nthOr, those, joined, firstFrom, firstOf}
 use Rattle.least.specs.Fraction.{atMost, greatestOf}
@@ -83,13 +83,6 @@ module _ (shares : List Share) (d : Share) where
   shares-more i h =
       ap (λ (l : List Share). joined (map shareLines l)) (drop-cons shares i d h)
       ∙ ap (λ (k : ℕ). shareLines (getD shares i d) ++ sharesFrom k) (sym (add-one i))
-
-  pub shares-more-length : (i : ℕ) → i < length shares → length (sharesFrom i) ≡ length (shareLines (getD shares i d)) + length (sharesFrom (i + 1))
-  shares-more-length i h = ap length (shares-more i h) ∙ length-append (shareLines (getD shares i d)) (sharesFrom (i + 1))
-
-  pub shares-end : (i : ℕ) → length shares ≤ i → sharesFrom i ≡ []
-  unfolding joined
-  shares-end i h = ap (λ (l : List Share). joined (map shareLines l)) (drop-of-length-le shares {i = i} h)
 
   -- the length of the listing, measured part by part
   pub listing-length : (j : ℕ) → loadShare shares ≡ getD shares j d ∷ [] → length (listingOf shares) ≡ length (loadLine (getD shares j d)) + length (sharesFrom 0)

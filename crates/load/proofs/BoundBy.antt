@@ -9,19 +9,21 @@ use lib.ListN.{drop}
 use Rattle.least.specs.Lists.{greatest}
 use Rattle.least.specs.Fraction.{leastOver}
 use Rattle.least.proofs.Iterate.{Mono}
+use Rattle.demand.specs.Demand.{demandFrom, FineDemand}
+use Rattle.demand.proofs.Demand.{demand-same}
 use Rattle.load.specs.Load.{row, loadAt, ratio, boundOf}
-use Rattle.load.specs.ByColumn.{sharesOf, FineShares, SameUntil}
+use Rattle.load.specs.ByColumn.{sharesOf, SameUntil}
 use Rattle.load.proofs.Load.{loadAt-mono-t}
-use Rattle.load.proofs.Shares.{askedFrom, shares-periods, shares-same}
+use Rattle.load.proofs.Shares.{shares-demand, shares-periods}
 use Rattle.load.proofs.LeastRatio.{Best, best-start, best-stays, best-falls}
 
 module _ (periods sums : List ℕ) (n s period own : ℕ) where
   abbrev pub loadBy : ℕ → ℕ
   loadBy t = loadAt [] (row period own 0) (drop s (sharesOf periods sums n)) t
 
-  pub loadBy-is : (t : ℕ) → loadBy t ≡ own + askedFrom periods sums n s t
+  pub loadBy-is : (t : ℕ) → loadBy t ≡ own + demandFrom periods sums n s t
   unfolding loadAt greatest
-  loadBy-is t = omega arith
+  loadBy-is t = omega (arith, shares-demand periods sums n s t)
 
   -- the least ratio of the times up to `done`
   abbrev pub BestBy : ℕ → ℕ → ℕ → Type 0
@@ -34,7 +36,7 @@ module _ (periods sums : List ℕ) (n s period own : ℕ) where
   unfolding boundOf
   bound-end done num den b l = let e : period ≡ done = omega (arith, b .within) in ap (λ (k : ℕ). leastOver k (λ t. ratio (loadBy t) t)) e ∙ b .value
 
-  module _ (fine : FineShares periods sums n) (some : 1 ≤ own) where
+  module _ (fine : FineDemand periods sums n) (some : 1 ≤ own) where
     pub loadBy-mono : Mono loadBy
     loadBy-mono v w l = loadAt-mono-t [] (row period own 0) (drop s (sharesOf periods sums n)) (shares-periods periods sums n (fine .fine) s) l
 
@@ -42,7 +44,7 @@ module _ (periods sums : List ℕ) (n s period own : ℕ) where
     loadBy-some t = omega (arith, loadBy-is t)
 
     -- one turn, at the time done + 1, where the rows ask for x
-    module _ (done num den : ℕ) (b : BestBy done num den) (x : ℕ) (is : x ≡ askedFrom periods sums n s (done + 1)) where
+    module _ (done num den : ℕ) (b : BestBy done num den) (x : ℕ) (is : x ≡ demandFrom periods sums n s (done + 1)) where
       now-is : own + x ≡ loadBy (done + 1)
       now-is = omega (arith, loadBy-is (done + 1))
 
@@ -53,5 +55,5 @@ module _ (periods sums : List ℕ) (n s period own : ℕ) where
       pub bound-falls : (until end : ℕ) → until ≡ min period ((own + x) * den / num) → until ≤ done → done < period → SameUntil periods n s (done + 1) period end → BestBy end (own + x) end
       bound-falls until end e h l same =
           best-falls loadBy period loadBy-mono loadBy-some done num den b end (own + x) (omega (arith, same .from)) (same .within) now-is
-          (loadBy-is end ∙ ap (λ (y : ℕ). own + y) (shares-same periods sums n s (done + 1) period end same) ∙ sym (loadBy-is (done + 1)))
+          (loadBy-is end ∙ ap (λ (y : ℕ). own + y) (demand-same periods sums n s (done + 1) end (same .same)) ∙ sym (loadBy-is (done + 1)))
           (omega arith)

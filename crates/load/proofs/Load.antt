@@ -21,12 +21,12 @@ use Rattle.least.specs.Each.{Each}
 use Rattle.least.specs.Each.Each.{none, more}
 use Rattle.least.specs.Fraction.{frac, noBound, _⊑_, _⊏_, greatestOf}
 use Rattle.least.proofs.Each.{each-map}
-use Rattle.least.proofs.Round.{ceil-mono}
 use Rattle.least.proofs.Search.{any-iff}
 use Rattle.least.proofs.Lists.{nth-get}
 use Rattle.least.proofs.Along.{along-iff}
 use Rattle.least.proofs.Fraction.{Ok, Finite, AllOk, Reached, FirstGreatest, cond-le, ⊑-noBound, not-⊏, greater-ind, greater-left, greater-right, noBound-not-finite, finite-below, leastOver-ok, leastOver-below, leastOver-mono, leastOver-reached, greatestOf-ok, greatestOf-above, greatestOf-member, first-if-any, greatestOf-mono}
 use Rattle.least.proofs.First.{first-greatest}
+use Rattle.demand.proofs.Demand.{demand-mono}
 use Rattle.load.specs.declared.Row.{Row}
 use Rattle.load.specs.Load.{rowSum, demandOf, loadAt, rowPasses, passesSystem, ratio, boundOf, boundsOf, loadOf, loadRow}
 
@@ -278,10 +278,8 @@ loadRow-first rows h =
 
 -- demand and load do not fall in t
 pub demandOf-mono-t : (rows : List Row) → ((r : Row) → List·Memᴰ r rows → 1 ≤ r .period) → {t u : ℕ} → t ≤ u → demandOf rows t ≤ demandOf rows u
-unfolding demandOf sum
-demandOf-mono-t [] p h = le-refl 0
-demandOf-mono-t (r ∷ rs) p {t} {u} h =
-    add-le-add (mul-le-mul-right (rowSum r) (ceil-mono t u (r .period) (p r (List·Memᴰ·head refl)) h)) (demandOf-mono-t rs (λ s m. p s (List·Memᴰ·tail m)) h)
+unfolding demandOf
+demandOf-mono-t rows p {t} {u} h = demand-mono (λ r. r .period) rowSum rows p t u h
 
 pub loadAt-mono-t : (lower : List Row) (s : Row) (higher : List Row) → ((r : Row) → List·Memᴰ r higher → 1 ≤ r .period) → {t u : ℕ} → t ≤ u → loadAt lower s higher t ≤ loadAt lower s higher u
 unfolding loadAt

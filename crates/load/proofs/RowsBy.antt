@@ -1,26 +1,26 @@
 -- The rows by columns and their bounds, place by place.
 -- Assumes nothing.
-use Prim.Native.Nat.{ℕ, zero, suc, _+_, _-_, _*_, max, _≤_, _<_}
+use Prim.Native.Nat.{ℕ, suc, _+_, max, _<_}
 use native.Mathlib.Omega.{arith}
 use native.Mathlib.Numerals.{add-one}
-use native.Mathlib.Decide.{decLt}
 use mathlib.Core.Path.{_≡_, refl, sym, ap, _∙_, fun-ext}
 use mathlib.Core.List.{List, [], _∷_, reverse, reverse-append}
 use lib.ListN.{length, take, drop, getD, set, replicate}
 use lib.Seq.{take-suc}
 use Rattle.least.specs.declared.Frac.{Frac}
-use Rattle.least.specs.Round.{ceilDiv}
 use Rattle.least.specs.Lists.{greatest, pad}
 use Rattle.least.specs.Fraction.{leastOver}
-use Rattle.least.proofs.Columns.{column-length, column-get, column-at, column-end}
+use Rattle.least.proofs.Columns.{column-length, column-get}
 use Rattle.least.proofs.Along.{along-at}
 use Rattle.least.proofs.Pad.{pad-none, pad-next}
+use Rattle.demand.specs.Demand.{demandFrom}
+use Rattle.demand.proofs.Demand.{list-demand}
 use Rattle.load.specs.declared.Row.{Row}
 use Rattle.load.specs.Load.{row, rowSum, demandOf, loadAt, ratio, boundOf, boundsOf}
 use Rattle.load.specs.ByColumn.{sharesOf, rowAt, rowsBy, FineColumns}
 use Rattle.load.specs.Code.{noRow, noFrac}
 use Rattle.load.proofs.Load.{heldBelow, boundsOf-length}
-use Rattle.load.proofs.Shares.{demand-next, demand-none, askedFrom, shares-next, shares-none}
+use Rattle.load.proofs.Shares.{shares-demand}
 
 -- only the period, what a row costs with its blocking, and what the higher rows ask for count
 pub bound-alike : (lower higher others : List Row) (r : Row) (own : ℕ) → own ≡ rowSum r + heldBelow lower → ((t : ℕ) → demandOf higher t ≡ demandOf others t) → boundOf lower r higher ≡ boundOf [] (row (r .period) own 0) others
@@ -56,24 +56,11 @@ module _ (periods sums holdings : List ℕ) (n : ℕ) where
       ap heldBelow e ∙ held-cons (rowAt periods sums holdings k) (reverse (take k R)) ∙ omega arith
 
   module _ (fine : FineColumns periods sums holdings n) where
-    -- they ask for what their shares ask for
-    rows-next : (k t : ℕ) → k < n → demandOf (drop k (rowsBy periods sums holdings n)) t ≡ ceilDiv t (getD periods k 0) * getD sums k 0 + demandOf (drop (suc k) (rowsBy periods sums holdings n)) t
-    unfolding rowsBy
-    rows-next k t h =
-        let e : getD sums k 0 - getD holdings k 0 + getD holdings k 0 ≡ getD sums k 0 = omega (arith, fine .holds k h) in
-        rw (column-at (rowAt periods sums holdings) k n h, demand-next, e) refl
-
-    rows-none : (k t : ℕ) → n ≤ k → demandOf (drop k (rowsBy periods sums holdings n)) t ≡ 0
-    unfolding rowsBy
-    rows-none k t h = rw (column-end (rowAt periods sums holdings) k n h) (demand-none t)
-
-    asked-from : (d k t : ℕ) → n ≤ k + d → demandOf (drop k (rowsBy periods sums holdings n)) t ≡ askedFrom periods sums n k t
-    asked-from zero k t h = rows-none k t (omega arith) ∙ sym (shares-none periods sums n k t (omega arith))
-    asked-from (suc d) k t h = go (decLt k n) (asked-from d (suc k) t (omega arith))
-      where
-        go : Dec (k < n) → demandOf (drop (suc k) (rowsBy periods sums holdings n)) t ≡ askedFrom periods sums n (suc k) t → demandOf (drop k (rowsBy periods sums holdings n)) t ≡ askedFrom periods sums n k t
-        go (yes q) ih = rows-next k t q ∙ rw ih (sym (shares-next periods sums n k t q))
-        go (no q) ih = rows-none k t (omega arith) ∙ sym (shares-none periods sums n k t (omega arith))
+    rows-demand : (s t : ℕ) → demandOf (drop s (rowsBy periods sums holdings n)) t ≡ demandFrom periods sums n s t
+    unfolding demandOf
+    rows-demand s t =
+        list-demand (λ r. r .period) rowSum noRow (rowsBy periods sums holdings n) periods sums n rows-length
+        (λ k h. ap (λ (r : Row). r .period) (rows-get k h)) (λ k h. let e = ap rowSum (rows-get k h) in omega (arith, fine .holds k h)) t s
 
     -- the bound of the row at the place k
     pub bound-at : (k : ℕ) → k < n → getD (boundsOf (rowsBy periods sums holdings n)) k noFrac ≡ boundOf [] (row (getD periods k 0) (getD sums k 0 + blockingAt k) 0) (drop (k + 1) (sharesOf periods sums n))
@@ -82,7 +69,7 @@ module _ (periods sums holdings : List ℕ) (n : ℕ) where
         let R = rowsBy periods sums holdings n in
         let e : getD sums k 0 + blockingAt k ≡ rowSum (rowAt periods sums holdings k) + blockingAt k = omega (arith, fine .holds k h) in
         along-at boundOf noRow noFrac R k (omega (arith, rows-length)) ∙ ap (λ (r : Row). boundOf (reverse (take k R)) r (drop (suc k) R)) (rows-get k h)
-        ∙ bound-alike (reverse (take k R)) (drop (suc k) R) (drop (k + 1) (sharesOf periods sums n)) (rowAt periods sums holdings k) _ e (λ t. rw add-one (asked-from n (suc k) t (omega arith)))
+        ∙ bound-alike (reverse (take k R)) (drop (suc k) R) (drop (k + 1) (sharesOf periods sums n)) (rowAt periods sums holdings k) _ e (λ t. rw add-one (rows-demand (suc k) t ∙ sym (shares-demand periods sums n (suc k) t)))
 
     -- the loop over all rows
     pub bounds-start : replicate 16 noFrac ≡ pad 16 noFrac (take 0 (boundsOf (rowsBy periods sums holdings n)))

@@ -10,7 +10,8 @@ use mathlib.Core.List.{List}
 use lib.ListN.{getD}
 use Rattle.least.specs.Round.{ceilDiv}
 use Rattle.least.proofs.Round.{ceil-covers, ceil-same}
-use Rattle.load.specs.ByColumn.{FinePeriods, SameUntil}
+use Rattle.demand.specs.Demand.{FinePeriods}
+use Rattle.load.specs.ByColumn.{SameUntil}
 
 -- the next time, from t on, at which the row at the place k comes
 abbrev pub nextTime : List ℕ → ℕ → ℕ → ℕ

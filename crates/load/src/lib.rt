@@ -10,10 +10,11 @@ ghost use lib.ListN.{length, drop, take};
 ghost use Rattle.least.specs.Round.{ceilDiv};
 ghost use Rattle.least.specs.Lists.{firstOf, pad};
 ghost use Rattle.least.specs.Fraction.{atMost, greatestOf};
+ghost use Rattle.demand.specs.Demand.{FinePeriods, FineDemand};
 ghost use Rattle.refusal.specs.declared.Outcome.the-variants.{Refused};
 ghost use Rattle.load.specs.Load.{row, rowSum, ratio, boundOf, boundsOf};
 ghost use Rattle.load.specs.Weigh.{rowInRange, hasTime, weighed, weighOf, rowsOf, weighRows};
-ghost use Rattle.load.specs.ByColumn.{sharesOf, rowsBy, FinePeriods, FineShares, FineColumns, DemandIs, SameUntil};
+ghost use Rattle.load.specs.ByColumn.{sharesOf, rowsBy, FineColumns, SameUntil};
 ghost use Rattle.load.specs.Code.{noFrac, FineRows, ColumnsAre, InRange, FineBounds};
 
 // The greatest number of a row.
@@ -42,37 +43,12 @@ pub struct Weighed {
     pub row: u64,
 }
 
-// How often a row with this period comes in t ticks. Often it is once, and nothing is divided.
-fn times_in(t: u64, period: u64) -> u64
-    requires { ⌜ (1 ≤ t) × (t ≤ 2 ^ 20) × (1 ≤ period) × (period ≤ 2 ^ 20) ⌝ }
-    ensures { λ r. ⌜ r ≡ ceilDiv t period ⌝ }
-{
-    if t <= period {
-        return 1;
-    }
-    least::ceil_div(t, period)
-}
-
-// What the rows from the place s on ask for in t ticks.
-pub fn demand_from(periods: &[u64; 16], sums: &[u64; 16], n: usize, s: usize, t: u64) -> u64
-    requires { ⌜ FineShares (now periods) (now sums) n × (1 ≤ t) × (t ≤ 2 ^ 20) ⌝ }
-    ensures { λ x. ⌜ DemandIs (sharesOf (now (periods .entry)) (now (sums .entry)) n) s t x ⌝ }
-{
-    let mut sum: u64 = 0;
-    let mut k = s;
-    while k < n {
-        sum += times_in(t, periods[k]) * sums[k];
-        k += 1;
-    }
-    sum
-}
-
 // The time at which a row with this period comes for the first time after t ticks or more.
 fn next_time(t: u64, period: u64) -> u64
     requires { ⌜ (1 ≤ t) × (t ≤ 2 ^ 20) × (1 ≤ period) × (period ≤ 2 ^ 20) ⌝ }
     ensures { λ r. ⌜ r ≡ ceilDiv t period * period ⌝ }
 {
-    times_in(t, period) * period
+    demand::releases(t, period) * period
 }
 
 // The end of the stretch of times, up to `most`, in which the rows from the place s on ask for the same as in t ticks.
@@ -121,14 +97,14 @@ pub fn bound_of(
     period: u64,
     own: u64,
 ) -> Frac
-    requires { ⌜ FineShares (now periods) (now sums) n × (1 ≤ period) × (period ≤ 2 ^ 20) × (1 ≤ own) × (own ≤ 2 ^ 23) ⌝ }
+    requires { ⌜ FineDemand (now periods) (now sums) n × (1 ≤ period) × (period ≤ 2 ^ 20) × (1 ≤ own) × (own ≤ 2 ^ 23) ⌝ }
     ensures { λ r. ⌜ r ≡ boundOf [] (row period own 0) (drop s (sharesOf (now (periods .entry)) (now (sums .entry)) n)) ⌝ }
 {
     let mut num = period + 1;
     let mut den = period;
     let mut done: u64 = 0;
     while done < period {
-        let l = own + demand_from(periods, sums, n, s, done + 1);
+        let l = own + demand::demand_from(periods, sums, n, s, done + 1);
         let until = no_smaller_until(l, num, den, period);
         if done < until {
             done = until;

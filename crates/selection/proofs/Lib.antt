@@ -7,4 +7,3 @@ pub mod Leading
 pub mod Reaching
 pub mod ReachingBy
 pub mod Selecting
-pub mod Offers

@@ -9,9 +9,9 @@ use lib.ListN.{drop}
 use Rattle.least.specs.declared.Frac.{Frac}
 use Rattle.least.specs.Fraction.{atMost}
 use Rattle.least.proofs.Fraction.{atMost-true, atMost-false}
+use Rattle.demand.specs.Demand.{demandFrom, FineDemand}
 use Rattle.load.specs.Load.{row, boundOf}
-use Rattle.load.specs.ByColumn.{sharesOf, FineShares}
-use Rattle.load.proofs.Shares.{askedFrom}
+use Rattle.load.specs.ByColumn.{sharesOf}
 use Rattle.load.proofs.BoundBy.{loadBy, loadBy-is, loadBy-mono}
 use Rattle.selection.specs.Code.{UntilIs}
 use Rattle.selection.proofs.Reaching.{ReachesTo, reaches-until, reaches-all, reaches-least, reaches-not}
@@ -28,7 +28,7 @@ module _ (periods sums : List ℕ) (n s period own : ℕ) (best : Frac) where
   reached-end done h f = sym (atMost-true best _ (reaches-least (loadBy periods sums n s period own) best period done h f))
 
   -- one turn, at the time done + 1, where the rows ask for x
-  module _ (fine : FineShares periods sums n) (some : 1 ≤ own) (done : ℕ) (before : ReachesBy done) (x : ℕ) (is : x ≡ askedFrom periods sums n s (done + 1)) where
+  module _ (fine : FineDemand periods sums n) (some : 1 ≤ own) (done : ℕ) (before : ReachesBy done) (x : ℕ) (is : x ≡ demandFrom periods sums n s (done + 1)) where
     now-is : own + x ≡ loadBy periods sums n s period own (done + 1)
     now-is = omega (arith, loadBy-is periods sums n s period own (done + 1))
 

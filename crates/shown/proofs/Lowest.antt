@@ -1,7 +1,6 @@
 -- What the code looks for, lock by lock, is the ceiling shown.
 -- Assumes nothing.
 use Prim.Native.Nat.{ℕ, suc, _<_}
-use native.Mathlib.Omega.{arith}
 use mathlib.Core.Path.{_≡_, refl, sym, ap, ap₂, _∙_}
 use mathlib.Core.List.{List}
 use lib.ListN.{getD}
@@ -12,7 +11,7 @@ use Rattle.task_set.specs.declared.Task.{Task}
 use Rattle.task_set.specs.declared.Part.{Part}
 use Rattle.task_set.specs.declared.Columns.{Columns}
 use Rattle.task_set.specs.declared.Locks.{Locks}
-use Rattle.task_set.specs.Tasks.{lowestCeiling, greatestHeld, smallestDeadline, tasksOf}
+use Rattle.task_set.specs.Tasks.{greatestHeld, smallestDeadline, tasksOf}
 use Rattle.task_set.specs.Fine.{FinePart}
 use Rattle.task_set.specs.ByColumn.{timesOf, ColumnsAre}
 use Rattle.task_set.specs.ByLock.{LocksAre}

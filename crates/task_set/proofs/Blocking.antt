@@ -63,9 +63,6 @@ module _ (m : ℕ) (σ : Setting) (i : ℕ) (h : Task) where
   blocked-each l r =
       omega (arith, reaching-is σ i h l (r .ceiling), greatest-each (reaching σ i h) (range 1 m) l (range-iff 1 m l .1 (r .from, r .upto)))
 
-  pub blocked-above : ((l : ℕ) → 1 ≤ l → l ≤ m → σ l < i) → blockedBy m σ i h ≡ 0
-  blocked-above low = ⊎-elim (λ z. z) (λ r. absurd (omega (arith, low (r .0) (r .1 .from) (r .1 .upto), r .1 .ceiling))) blocked-reached
-
 pub blocking-lowest : (m : ℕ) (σ : Setting) → blockingOf m σ [] ≡ 0
 unfolding blockingOf greatest
 blocking-lowest m σ = refl

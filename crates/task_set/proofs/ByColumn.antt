@@ -1,18 +1,18 @@
 -- The columns of a part: their tasks ask for what the part's tasks ask for.
 -- Assumes nothing.
-use Prim.Native.Nat.{ℕ, zero, suc, _+_, _*_, _≤_, _<_}
+use Prim.Native.Nat.{ℕ, _<_}
 use native.Mathlib.Omega.{arith}
-use native.Mathlib.Decide.{decLt}
-use mathlib.Core.Path.{_≡_, sym, ap₂, _∙_}
+use mathlib.Core.Path.{_≡_, sym, ap, _∙_}
 use lib.ListN.{drop, getD}
-use Rattle.least.specs.Round.{ceilDiv}
+use Rattle.demand.proofs.Demand.{list-demand}
+use Rattle.task_set.specs.declared.Task.{Task}
 use Rattle.task_set.specs.declared.Part.{Part}
 use Rattle.task_set.specs.declared.Columns.{Columns}
-use Rattle.task_set.specs.Tasks.{demandIn, tasksOf}
-use Rattle.task_set.specs.Fine.{FinePart}
+use Rattle.task_set.specs.Tasks.{demandIn, withLocks, tasksOf}
+use Rattle.task_set.specs.Fine.{blankTask, FinePart}
 use Rattle.task_set.specs.ByColumn.{timesOf, FineTime, FineTimes, ColumnsAre}
-use Rattle.task_set.proofs.Places.{demand-next, demand-none}
-use Rattle.task_set.proofs.Times.{times-next, times-none}
+use Rattle.task_set.proofs.Places.{tasks-length, tasks-get}
+use Rattle.task_set.proofs.Times.{times-demand}
 
 module _ (p : Part) (fine : FinePart p) (c : Columns) (are : ColumnsAre p c) where
   pub columns-fine : FineTimes (c .separations) (c .costs) (p .count)
@@ -25,18 +25,11 @@ module _ (p : Part) (fine : FinePart p) (c : Columns) (are : ColumnsAre p c) whe
           let C = are .costs k (omega (arith, fine .few)) in
           record { separation-some = omega arith; separation-most = omega arith; cost-some = omega arith; cost-most = omega arith }
 
-  same-from : (d k w : ℕ) → p .count ≤ k + d → demandIn (drop k (timesOf (c .separations) (c .costs) (p .count))) w ≡ demandIn (drop k (tasksOf p)) w
-  same-from zero k w h = times-none (c .separations) (c .costs) (p .count) k w (omega arith) ∙ sym (demand-none p fine k w (omega arith))
-  same-from (suc d) k w h = go (decLt k (p .count)) (same-from d (suc k) w (omega arith))
-    where
-      go : Dec (k < p .count) → demandIn (drop (suc k) (timesOf (c .separations) (c .costs) (p .count))) w ≡ demandIn (drop (suc k) (tasksOf p)) w → demandIn (drop k (timesOf (c .separations) (c .costs) (p .count))) w ≡ demandIn (drop k (tasksOf p)) w
-      go (yes q) ih =
-          let T = are .separations k (omega (arith, fine .few)) in
-          let C = are .costs k (omega (arith, fine .few)) in
-          times-next (c .separations) (c .costs) (p .count) k w q
-          ∙ ap₂ (λ (x y : ℕ). x + y) (ap₂ (λ (x y : ℕ). ceilDiv w x * y) T C) ih
-          ∙ sym (demand-next p fine k w q)
-      go (no q) ih = times-none (c .separations) (c .costs) (p .count) k w (omega arith) ∙ sym (demand-none p fine k w (omega arith))
-
   pub columns-demand : (r w : ℕ) → demandIn (drop r (timesOf (c .separations) (c .costs) (p .count))) w ≡ demandIn (drop r (tasksOf p)) w
-  columns-demand r w = same-from (p .count) r w (omega arith)
+  unfolding demandIn
+  columns-demand r w =
+      times-demand (c .separations) (c .costs) (p .count) r w
+      ∙ sym
+      (list-demand (λ task. task .separation) (λ task. task .cost) (withLocks (p .locks) blankTask) (tasksOf p) (c .separations) (c .costs) (p .count) (tasks-length p fine)
+      (λ k h. ap (λ (task : Task). task .separation) (tasks-get p fine k h) ∙ sym (are .separations k (omega (arith, fine .few))))
+      (λ k h. ap (λ (task : Task). task .cost) (tasks-get p fine k h) ∙ sym (are .costs k (omega (arith, fine .few)))) w r)

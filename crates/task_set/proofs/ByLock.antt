@@ -205,8 +205,5 @@ module _ (p : Part) (fine : FinePart p) where
         let h = map-iff (λ k. k .deadline) (smallestDeadline l (tasksOf p)) (those (uses l) (tasksOf p)) .0 (smallest-member (map (λ k. k .deadline) (those (uses l) (tasksOf p))) some) in
         (h .0, those-iff (uses l) (h .0) (tasksOf p) .0 (h .1) .0, h .2)
 
-    pub deadline-some : 1 ≤ smallestDeadline l (tasksOf p)
-    deadline-some = let d = smallest-due in omega (arith, d .2, fine-deadline (d .0) (d .1))
-
     pub deadline-most : smallestDeadline l (tasksOf p) ≤ 2 ^ 20
     deadline-most = let d = smallest-due in omega (arith, d .2, fine-deadline (d .0) (d .1))

@@ -2,33 +2,24 @@
 --   Separated ts == every task's separation is at least 1
 -- Assumes nothing.
 use Prim.Native.Nat.{ℕ, zero, suc, _≤_}
-use native.Mathlib.Nat.{le-refl, add-le-add, mul-le-mul-right}
 use native.Mathlib.Omega.{arith}
-use mathlib.Core.List.{List, [], _∷_, _++_}
+use mathlib.Core.List.{List, [], _∷_, List·Memᴰ}
 use lib.ListN.{drop}
 use Rattle.least.specs.Lists.{sum}
-use Rattle.least.proofs.Round.{ceil-mono}
+use Rattle.least.proofs.Members.{drop-member}
+use Rattle.demand.proofs.Demand as demand
 use Rattle.task_set.specs.declared.Task.{Task}
 use Rattle.task_set.specs.Tasks.{demandIn}
 
-pub data Separated : List Task → Type 0 where
-  none : Separated []
-  more : {task : Task} {ts : List Task} → 1 ≤ task .separation → Separated ts → Separated (task ∷ ts)
+abbrev pub Separated : List Task → Type 0
+Separated ts = (task : Task) → List·Memᴰ task ts → 1 ≤ task .separation
 
-pub separated-drop : (r : ℕ) {ts : List Task} → Separated ts → Separated (drop r ts)
-separated-drop zero s = s
-separated-drop (suc r) none = none
-separated-drop (suc r) (more h s) = separated-drop r s
+pub separated-drop : (r : ℕ) (ts : List Task) → Separated ts → Separated (drop r ts)
+separated-drop r ts apart task m = apart task (drop-member r ts m)
 
-pub separated-behind : (front : List Task) {ts : List Task} → Separated (front ++ ts) → Separated ts
-separated-behind [] s = s
-separated-behind (task ∷ front) (more h s) = separated-behind front s
-
-pub demand-mono : {ts : List Task} → Separated ts → (v w : ℕ) → v ≤ w → demandIn ts v ≤ demandIn ts w
-unfolding demandIn sum
-demand-mono none v w l = le-refl 0
-demand-mono (more {task} {ts} h s) v w l =
-    add-le-add (mul-le-mul-right (task .cost) (ceil-mono v w (task .separation) h l)) (demand-mono s v w l)
+pub demand-mono : (ts : List Task) → Separated ts → (v w : ℕ) → v ≤ w → demandIn ts v ≤ demandIn ts w
+unfolding demandIn
+demand-mono ts apart v w l = demand.demand-mono (λ task. task .separation) (λ task. task .cost) ts apart v w l
 
 -- the tasks above r + 1 ask for no more than those above r
 pub demand-drop : (r : ℕ) (ts : List Task) (w : ℕ) → demandIn (drop (suc r) ts) w ≤ demandIn (drop r ts) w

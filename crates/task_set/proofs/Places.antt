@@ -1,21 +1,19 @@
--- The tasks of the struct `Part` by their places, and what they ask for.
+-- The tasks of the struct `Part` by their places.
 -- Assumes nothing.
-use Prim.Native.Nat.{ℕ, zero, suc, _+_, _*_, _≤_, _<_}
+use Prim.Native.Nat.{ℕ, zero, suc, _≤_, _<_}
 use native.Mathlib.Omega.{arith}
 use mathlib.Core.Path.{_≡_, refl, sym, ap, _∙_}
 use mathlib.Core.List.{List, [], _∷_, map, List·Memᴰ}
 use lib.ListN.{length, take, drop, getD, length-take, length-map, drop-of-length-le, List·getD-map}
 use lib.Seq.{drop-cons, getD-take, length-take-le, take-take}
-use Rattle.least.specs.Round.{ceilDiv}
-use Rattle.least.specs.Lists.{sum}
 use Rattle.least.proofs.Lists.{nth-get}
 use Rattle.least.proofs.Members.{place-of}
 use Rattle.task_set.specs.declared.Task.{Task}
 use Rattle.task_set.specs.declared.Part.{Part}
-use Rattle.task_set.specs.Tasks.{heldFor, demandIn, withLocks, tasksOf}
+use Rattle.task_set.specs.Tasks.{heldFor, withLocks, tasksOf}
 use Rattle.task_set.specs.Fine.{blankTask, FinePart}
 
-pub drop-map : {A B : Type 0} (f : A → B) (k : ℕ) (l : List A) → drop k (map f l) ≡ map f (drop k l)
+drop-map : {A B : Type 0} (f : A → B) (k : ℕ) (l : List A) → drop k (map f l) ≡ map f (drop k l)
 drop-map f zero l = refl
 drop-map f (suc k) [] = refl
 drop-map f (suc k) (x ∷ l) = drop-map f k l
@@ -46,24 +44,19 @@ module _ (p : Part) (fine : FinePart p) where
   unfolding tasksOf
   tasks-take k h = take-map (withLocks (p .locks)) k (take (p .count) (p .tasks)) ∙ ap (map (withLocks (p .locks))) (take-take k (p .count) (p .tasks) h)
 
+  pub tasks-get : (k : ℕ) → k < p .count → getD (tasksOf p) k (withLocks (p .locks) blankTask) ≡ withLocks (p .locks) (getD (p .tasks) k blankTask)
+  unfolding tasksOf
+  tasks-get k h = List·getD-map (withLocks (p .locks)) (take (p .count) (p .tasks)) k blankTask ∙ ap (withLocks (p .locks)) (getD-take (p .count) (p .tasks) k blankTask h)
+
   -- every task stands at a place
   pub tasks-place : {t : Task} → List·Memᴰ t (tasksOf p) → (k : ℕ) × (k < p .count) × (t ≡ withLocks (p .locks) (getD (p .tasks) k blankTask))
-  unfolding tasksOf
   tasks-place m =
       let h = place-of (withLocks (p .locks) blankTask) (tasksOf p) m in
       let l : h .0 < p .count = omega (arith, h .1, tasks-length) in
-      (h .0, l, h .2 ∙ List·getD-map (withLocks (p .locks)) (take (p .count) (p .tasks)) (h .0) blankTask ∙ ap (withLocks (p .locks)) (getD-take (p .count) (p .tasks) (h .0) blankTask l))
+      (h .0, l, h .2 ∙ tasks-get (h .0) l)
 
   -- and uses the locks that there are as it stands there
   pub held-at : (l : ℕ) → 1 ≤ l → l ≤ p .locks → (t : Task) → heldFor l (withLocks (p .locks) t) ≡ heldFor l t
   unfolding heldFor
   held-at zero a b t = absurd (omega arith)
   held-at (suc j) a b t = nth-get 0 j (take (p .locks) (t .uses)) ∙ getD-take (p .locks) (t .uses) j 0 (omega arith) ∙ sym (nth-get 0 j (t .uses))
-
-  pub demand-next : (k w : ℕ) → k < p .count → demandIn (drop k (tasksOf p)) w ≡ ceilDiv w (getD (p .tasks) k blankTask .separation) * getD (p .tasks) k blankTask .cost + demandIn (drop (suc k) (tasksOf p)) w
-  unfolding demandIn sum
-  demand-next k w h = rw (tasks-at k h) refl
-
-  pub demand-none : (k w : ℕ) → p .count ≤ k → demandIn (drop k (tasksOf p)) w ≡ 0
-  unfolding demandIn sum
-  demand-none k w h = rw (tasks-end k h) refl

@@ -1,81 +1,43 @@
--- The tasks by columns, place by place, and what they ask for.
+-- The tasks by columns: what they ask for is the demand of the columns.
 -- Assumes nothing.
-use Prim.Native.Nat.{ℕ, zero, suc, _+_, _-_, _*_, _^_, _≤_, _<_}
-use native.Mathlib.Nat.{le-trans}
+use Prim.Native.Nat.{ℕ, _≤_, _<_}
 use native.Mathlib.Omega.{arith}
-use native.Mathlib.Decide.{decLt}
-use mathlib.Core.Path.{_≡_, refl, ap, ap₂, _∙_}
-use mathlib.Core.List.{List, [], _∷_, map}
-use lib.ListN.{length, drop, getD, length-map}
-use Rattle.least.specs.Round.{ceilDiv}
-use Rattle.least.specs.Lists.{sum, countFrom}
-use Rattle.least.proofs.Round.{ceil-le, product}
-use Rattle.least.proofs.Sums.{length-count}
+use mathlib.Core.Path.{_≡_, sym, ap, subst}
+use mathlib.Core.List.{List}
+use lib.ListN.{length, drop, getD}
+use Rattle.least.proofs.Columns.{column-length, column-get}
+use Rattle.least.proofs.Members.{each-place}
+use Rattle.demand.specs.Demand.{demandFrom, FineDemand}
+use Rattle.demand.proofs.Demand.{list-demand}
+use Rattle.task_set.specs.declared.Task.{Task}
 use Rattle.task_set.specs.Tasks.{demandIn}
+use Rattle.task_set.specs.Fine.{blankTask}
 use Rattle.task_set.specs.ByColumn.{timesAt, timesOf, FineTimes}
 use Rattle.task_set.proofs.Demand.{Separated}
-use Rattle.task_set.proofs.Demand.Separated.{none, more}
-use Rattle.task_set.proofs.Places.{drop-map}
-
-drop-count : (k a n : ℕ) → drop k (countFrom a n) ≡ countFrom (a + k) (n - k)
-unfolding countFrom
-drop-count zero a n = let e : a + 0 ≡ a = omega arith in let m : n - 0 ≡ n = omega arith in rw (e, m) refl
-drop-count (suc k) a zero = let m : 0 - suc k ≡ 0 = omega arith in rw m refl
-drop-count (suc k) a (suc n) =
-    let e : suc a + k ≡ a + suc k = omega arith in
-    let m : n - k ≡ suc n - suc k = omega arith in
-    drop-count k (suc a) n ∙ ap₂ countFrom e m
 
 module _ (T C : List ℕ) (n : ℕ) where
-  times-from : (k : ℕ) → drop k (timesOf T C n) ≡ map (timesAt T C) (countFrom k (n - k))
-  unfolding timesOf
-  times-from k = let e : 0 + k ≡ k = omega arith in drop-map (timesAt T C) k (countFrom 0 n) ∙ ap (map (timesAt T C)) (drop-count k 0 n ∙ ap (λ (a : ℕ). countFrom a (n - k)) e)
-
   pub times-length : length (timesOf T C n) ≡ n
   unfolding timesOf
-  times-length = length-map (countFrom 0 n) (timesAt T C) ∙ length-count n 0
+  times-length = column-length (timesAt T C) n
 
-  times-at : (k : ℕ) → k < n → drop k (timesOf T C n) ≡ timesAt T C k ∷ drop (suc k) (timesOf T C n)
-  unfolding countFrom
-  times-at k h = let e : n - k ≡ suc (n - suc k) = omega arith in rw (times-from k, times-from (suc k), e) refl
+  times-get : (k : ℕ) → k < n → getD (timesOf T C n) k blankTask ≡ timesAt T C k
+  unfolding timesOf
+  times-get k h = column-get (timesAt T C) blankTask k n h
 
-  times-end : (k : ℕ) → n ≤ k → drop k (timesOf T C n) ≡ []
-  unfolding countFrom
-  times-end k h = let e : n - k ≡ 0 = omega arith in rw (times-from k, e) refl
-
-  pub times-next : (k w : ℕ) → k < n → demandIn (drop k (timesOf T C n)) w ≡ ceilDiv w (getD T k 0) * getD C k 0 + demandIn (drop (suc k) (timesOf T C n)) w
-  unfolding demandIn sum
-  times-next k w h = rw (times-at k h) refl
-
-  pub times-none : (k w : ℕ) → n ≤ k → demandIn (drop k (timesOf T C n)) w ≡ 0
-  unfolding demandIn sum
-  times-none k w h = rw (times-end k h) refl
+  pub times-demand : (r w : ℕ) → demandIn (drop r (timesOf T C n)) w ≡ demandFrom T C n r w
+  unfolding demandIn
+  times-demand r w =
+      list-demand (λ task. task .separation) (λ task. task .cost) blankTask (timesOf T C n) T C n times-length
+      (λ k h. ap (λ (task : Task). task .separation) (times-get k h)) (λ k h. ap (λ (task : Task). task .cost) (times-get k h)) w r
 
   module _ (fine : FineTimes T C n) where
-    share-small : (k w : ℕ) → k < n → w ≤ 2 ^ 20 → ceilDiv w (getD T k 0) * getD C k 0 ≤ 2 ^ 20 * 2 ^ 20
-    share-small k w h l =
-        let t = fine .each k h in
-        let f : ceilDiv w (getD T k 0) ≤ 2 ^ 20 = le-trans (ceil-le w (getD T k 0) (t .separation-some)) l in
-        product (2 ^ 20) (2 ^ 20) f (t .cost-most)
-
-    few-small : (d k w : ℕ) → n ≤ k + d → w ≤ 2 ^ 20 → demandIn (drop k (timesOf T C n)) w ≤ 2 ^ 40 * d
-    few-small zero k w h l = omega (arith, times-none k w (omega arith))
-    few-small (suc d) k w h l = go (decLt k n) (few-small d (suc k) w (omega arith) l)
-      where
-        go : Dec (k < n) → demandIn (drop (suc k) (timesOf T C n)) w ≤ 2 ^ 40 * d → demandIn (drop k (timesOf T C n)) w ≤ 2 ^ 40 * suc d
-        go (yes q) ih = omega (arith, times-next k w q, share-small k w q l)
-        go (no q) ih = omega (arith, times-none k w (omega arith))
-
-    pub times-small : (k w : ℕ) → w ≤ 2 ^ 20 → demandIn (drop k (timesOf T C n)) w ≤ 2 ^ 44
-    times-small k w l = omega (arith, few-small 16 k w (omega (arith, fine .few)) l)
-
-    separated-from : (d k : ℕ) → n ≤ k + d → Separated (drop k (timesOf T C n))
-    separated-from zero k h = rw (times-end k (omega arith)) none
-    separated-from (suc d) k h = go (decLt k n) (separated-from d (suc k) (omega arith))
-      where
-        go : Dec (k < n) → Separated (drop (suc k) (timesOf T C n)) → Separated (drop k (timesOf T C n))
-        go (yes q) ih = rw (times-at k q) (more (fine .each k q .separation-some) ih)
-        go (no q) ih = rw (times-end k (omega arith)) none
+    pub times-fine : FineDemand T C n
+    times-fine = record {
+      fine = record { few = fine .few; some = λ k h. fine .each k h .separation-some; most = λ k h. fine .each k h .separation-most };
+      most = λ k h. omega (arith, fine .each k h .cost-most);
+    }
 
     pub times-separated : Separated (timesOf T C n)
-    times-separated = separated-from n 0 (omega arith)
+    times-separated =
+        each-place blankTask (λ (task : Task). 1 ≤ task .separation) (timesOf T C n)
+        (λ k h. let l : k < n = omega (arith, times-length) in subst (λ (task : Task). 1 ≤ task .separation) (sym (times-get k l)) (fine .each k l .separation-some))

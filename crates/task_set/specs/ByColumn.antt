@@ -2,7 +2,6 @@
 --   timesOf separations costs n == n tasks with these separations and costs, without deadlines and locks
 --   FineTimes separations costs n == there are at most 16 of them, and each has 1 ≤ T ≤ 2^20 and 1 ≤ C ≤ 2^20
 --   ColumnsAre p c     == c holds the numbers of the part's tasks, place by place
---   DemandIs ts r w x  == x is what the tasks k > r ask for in w ticks
 -- Assumes nothing.
 use Prim.Native.Nat.{ℕ, _^_, _≤_, _<_}
 use mathlib.Core.Path.{_≡_}
@@ -12,7 +11,6 @@ use Rattle.least.specs.Lists.{countFrom}
 use Rattle.task_set.specs.declared.Task.{Task}
 use Rattle.task_set.specs.declared.Part.{Part}
 use Rattle.task_set.specs.declared.Columns.{Columns}
-use Rattle.task_set.specs.Tasks.{higher, demandIn}
 use Rattle.task_set.specs.Fine.{blankTask}
 
 -- the one at the place k, from 0
@@ -36,7 +34,3 @@ pub record ColumnsAre (p : Part) (c : Columns) : Type 0 where
   pub separations : (k : ℕ) → k < 16 → getD (c .separations) k 0 ≡ getD (p .tasks) k blankTask .separation
   pub costs : (k : ℕ) → k < 16 → getD (c .costs) k 0 ≡ getD (p .tasks) k blankTask .cost
   pub deadlines : (k : ℕ) → k < 16 → getD (c .deadlines) k 0 ≡ getD (p .tasks) k blankTask .deadline
-
-pub record DemandIs (ts : List Task) (r w x : ℕ) : Type 0 where
-  pub value : x ≡ demandIn (higher r ts) w
-  pub small : x ≤ 2 ^ 44

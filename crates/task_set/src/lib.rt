@@ -1,10 +1,9 @@
 // The tasks of a part and the locks that they share.
 ghost use mathlib.Core.Path.{_≡_};
-ghost use Prim.Native.Nat.{suc, _^_, _≤_, _<_};
-ghost use Rattle.least.specs.Round.{ceilDiv};
+ghost use Prim.Native.Nat.{suc, _≤_, _<_};
 ghost use Rattle.task_set.specs.Tasks.{tasksOf};
 ghost use Rattle.task_set.specs.Fine.{FinePart};
-ghost use Rattle.task_set.specs.ByColumn.{timesOf, FineTimes, ColumnsAre, DemandIs};
+ghost use Rattle.task_set.specs.ByColumn.{ColumnsAre};
 ghost use Rattle.task_set.specs.ByLock.{lockOf, earlier, withUser, LocksAre, LongestBelow, blockedFor, blockingBy};
 
 // A task: least separation T, worst execution time C, deadline D; and for each lock of the part, in order of first mention, how long the
@@ -50,31 +49,6 @@ pub fn columns_of(part: Part) -> Columns
         costs,
         deadlines,
     }
-}
-
-// How often a task with this separation comes in w ticks. Often it is once, and nothing is divided.
-fn releases(w: u64, separation: u64) -> u64
-    requires { ⌜ (1 ≤ w) × (w ≤ 2 ^ 20) × (1 ≤ separation) × (separation ≤ 2 ^ 20) ⌝ }
-    ensures { λ r. ⌜ r ≡ ceilDiv w separation ⌝ }
-{
-    if w <= separation {
-        return 1;
-    }
-    least::ceil_div(w, separation)
-}
-
-// What the tasks with a number above r ask for in w ticks.
-pub fn demand_above(separations: &[u64; 16], costs: &[u64; 16], n: usize, r: usize, w: u64) -> u64
-    requires { ⌜ FineTimes (now separations) (now costs) n × (1 ≤ w) × (w ≤ 2 ^ 20) ⌝ }
-    ensures { λ x. ⌜ DemandIs (timesOf (now (separations .entry)) (now (costs .entry)) n) r w x ⌝ }
-{
-    let mut sum: u64 = 0;
-    let mut k = r;
-    while k < n {
-        sum += releases(w, separations[k]) * costs[k];
-        k += 1;
-    }
-    sum
 }
 
 // A lock of a part: its lowest ceiling, its longest use, and the smallest deadline among its users.

@@ -43,10 +43,6 @@ written-two at p q b h =
     ap₂ (λ (x y : List ℕ). x ++ q ++ y) (take-at front rest (at + length p) n) behind
     ∙ ap (λ (x : List ℕ). x ++ drop (at + length (p ++ q)) b) (append-assoc (take at b) p q)
 
--- the first byte first
-pub written-first : (at x : ℕ) (q b : List ℕ) → at < length b → written at (x ∷ q) b ≡ written (at + 1) q (set b at x)
-written-first at x q b h = sym (written-two at (x ∷ []) q b (omega arith)) ∙ ap (written (at + 1) q) (written-one at x b h)
-
 -- the last byte first
 pub written-last : (at : ℕ) (p : List ℕ) (x : ℕ) (b : List ℕ) → at + length p < length b → written at (p ++ (x ∷ [])) b ≡ written at p (set b (at + length p) x)
 unfolding written

@@ -8,12 +8,12 @@ use native.Mathlib.Omega.{arith}
 use lib.ListN.{drop, getD}
 use Rattle.least.proofs.Iterate.{Unsolved, step-unsolved}
 use Rattle.supply.proofs.SupplyLaws.{reach}
+use Rattle.demand.specs.Demand.{demandFrom}
 use Rattle.task_set.specs.declared.Task.{Task}
-use Rattle.task_set.specs.Tasks.{demandIn}
 use Rattle.task_set.specs.Blocking.{needOf}
 use Rattle.task_set.specs.ByColumn.{timesOf, FineTime}
 use Rattle.task_set.proofs.Demand.{Separated, separated-drop}
-use Rattle.task_set.proofs.Times.{times-separated}
+use Rattle.task_set.proofs.Times.{times-demand, times-fine, times-separated}
 use Rattle.budget.specs.Code.{dueTask}
 use Rattle.budget.proofs.Iteration.{ticks, reach-unique, need-some, ticks-mono, start-unmet, time-past, time-over, time-met}
 use Rattle.budget.proofs.passing_time.Statement.{statement}
@@ -40,7 +40,7 @@ fine : (s : tie.Start Inv-loop μ-loop) → FineTime (getD (s .args .separations
 fine s = s .pre .0 .each (s .args .i) (s .pre .1)
 
 apart : (s : tie.Start Inv-loop μ-loop) → Separated (higher s)
-apart s = separated-drop (suc (s .args .i)) (times-separated (s .args .separations .now) (s .args .costs .now) (s .args .n) (s .pre .0))
+apart s = separated-drop (suc (s .args .i)) (timesOf (s .args .separations .now) (s .args .costs .now) (s .args .n)) (times-separated (s .args .separations .now) (s .args .costs .now) (s .args .n) (s .pre .0))
 
 -- what is needed at t
 abbrev need : tie.Start Inv-loop μ-loop → ℕ → ℕ
@@ -63,24 +63,25 @@ loop-holds c =
     let s = c .before in
     (s .pre .7, start-unmet (s .args .period) (s .args .q) (s .args .b) (task s) (higher s) (apart s) (fine s .cost-some) (s .pre .5) (s .pre .6) (s .args .start) (s .pre .8))
 
-add-demand-above : tie.Need-add-demand-above Inv-loop μ-loop
-add-demand-above c = omega (arith, c .before .before .before .pre .0 .few)
+add-demand-from : tie.Need-add-demand-from Inv-loop μ-loop
+add-demand-from c = omega (arith, c .before .before .before .pre .0 .few)
 
-demand-above-requires : tie.Need-demand-above-requires Inv-loop μ-loop
-demand-above-requires c κs = (c .before .before .before .pre .0, omega arith, omega arith)
+demand-from-requires : tie.Need-demand-from-requires Inv-loop μ-loop
+demand-from-requires c κs = let s = c .before .before .before in (times-fine (s .args .separations .now) (s .args .costs .now) (s .args .n) (s .pre .0), omega arith, omega arith)
 
 add-need : tie.Need-add-need Inv-loop μ-loop
-add-need c = omega (arith, c .demand-above .ensures .small, fine (c .before .before .before .before))
+add-need c = omega (arith, c .demand-from .ensures .small, fine (c .before .before .before .before))
 
 -- what the code computes is the need at t
-is : (c : tie.After-demand-above Inv-loop μ-loop) →
+is : (c : tie.After-demand-from Inv-loop μ-loop) →
     let s = c .before .before .before .before in
-    getD (s .args .costs .now) (s .args .i) 0 + s .args .b + c .demand-above .result ≡ need s (c .before .before .loop .t)
+    getD (s .args .costs .now) (s .args .i) 0 + s .args .b + c .demand-from .result ≡ need s (c .before .before .loop .t)
 unfolding needOf
 is c =
     let s = c .before .before .before .before in
     let t = c .before .before .loop .t in
-    omega (arith, c .demand-above .ensures .value ∙ ap (λ (k : ℕ). demandIn (drop k (timesOf (s .args .separations .now) (s .args .costs .now) (s .args .n))) t) (add-one (s .args .i)))
+    let asked = c .demand-from .ensures .value ∙ ap (λ (k : ℕ). demandFrom (s .args .separations .now) (s .args .costs .now) (s .args .n) k t) (add-one (s .args .i)) in
+    omega (arith, asked, times-demand (s .args .separations .now) (s .args .costs .now) (s .args .n) (suc (s .args .i)) t)
 
 returns : tie.Need-returns Inv-loop μ-loop
 returns c =
@@ -133,8 +134,8 @@ passing-time-spec =
     element-copy-out-own
     add-own
     loop-holds
-    add-demand-above
-    demand-above-requires
+    add-demand-from
+    demand-from-requires
     add-need
     returns
     reach-at-requires

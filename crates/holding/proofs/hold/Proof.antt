@@ -1,14 +1,14 @@
 -- `holding::hold` meets its contract. The invariant: no number below w is a solution. A step keeps it, at rest w is the least, and past the limit there is none.
 -- Assumes nothing.
-use Prim.Native.Nat.{ℕ, _+_, _-_, _≤_}
-use mathlib.Core.Path.{_≡_, sym, ap}
+use Prim.Native.Nat.{_+_, _-_, _≤_}
+use mathlib.Core.Path.{_≡_, sym}
 use native.Mathlib.Omega.{arith}
 use mathlib.Core.List.{List}
 use Rattle.least.proofs.Iterate.{Unsolved, start-unsolved, step-unsolved, at-rest, past-limit}
 use Rattle.task_set.specs.declared.Task.{Task}
 use Rattle.task_set.specs.ByColumn.{timesOf}
 use Rattle.task_set.proofs.Demand.{Separated}
-use Rattle.task_set.proofs.Times.{times-separated}
+use Rattle.task_set.proofs.Times.{times-demand, times-fine, times-separated}
 use Rattle.holding.specs.Code.{holdUpTo}
 use Rattle.holding.proofs.Iteration.{holdNeed, need-mono, need-from}
 use Rattle.holding.proofs.hold.Statement.{statement}
@@ -40,8 +40,8 @@ search-holds c = (omega arith, start-unsolved _ (c .args .g) (need-from (tasks c
 loop-holds : tie.Need-loop-holds Inv-loop μ-loop Inv-search μ-search
 loop-holds c = c .search .inv
 
-demand-above-requires : tie.Need-demand-above-requires Inv-loop μ-loop Inv-search μ-search
-demand-above-requires c κs = let s = c .before .before .before in (s .pre .0, omega arith, omega arith)
+demand-from-requires : tie.Need-demand-from-requires Inv-loop μ-loop Inv-search μ-search
+demand-from-requires c κs = let s = c .before .before .before in (times-fine (s .args .separations .now) (s .args .costs .now) (s .args .n) (s .pre .0), omega arith, omega arith)
 
 add-next : tie.Need-add-next Inv-loop μ-loop Inv-search μ-search
 add-next c = omega arith
@@ -50,10 +50,12 @@ loop-less : tie.Need-loop-less Inv-loop μ-loop Inv-search μ-search
 loop-less c = omega arith
 
 -- what the code computes is the need at w
-is : (c : tie.After-demand-above Inv-loop μ-loop Inv-search μ-search) →
+is : (c : tie.After-demand-from Inv-loop μ-loop Inv-search μ-search) →
     let s = c .before .before .before .before in
-    s .args .g + c .demand-above .result ≡ holdNeed (tasks s) (s .args .g) (s .args .r) (c .before .before .loop .w)
-is c = ap (λ (x : ℕ). c .before .before .before .before .args .g + x) (c .demand-above .ensures .value)
+    s .args .g + c .demand-from .result ≡ holdNeed (tasks s) (s .args .g) (s .args .r) (c .before .before .loop .w)
+is c =
+    let s = c .before .before .before .before in
+    omega (arith, c .demand-from .ensures .value, times-demand (s .args .separations .now) (s .args .costs .now) (s .args .n) (s .args .r) (c .before .before .loop .w))
 
 loop-again : tie.Need-loop-again Inv-loop μ-loop Inv-search μ-search
 loop-again c =
@@ -81,7 +83,7 @@ hold-spec =
     μ-search
     search-holds
     loop-holds
-    demand-above-requires
+    demand-from-requires
     add-next
     loop-less
     loop-again

@@ -5,16 +5,16 @@ use Rattle.least.proofs.Round.{ceil-le, product-fits}
 use Rattle.load.proofs.next_time.Statement.{statement}
 use Rattle.load.proofs.next_time.Tie as tie
 
-times-in-requires : tie.Need-times-in-requires
-times-in-requires c κs = omega arith
+releases-requires : tie.Need-releases-requires
+releases-requires c κs = omega arith
 
 mul-result : tie.Need-mul-result
 mul-result c =
     let s = c .before in
-    record { fits = product-fits (omega (arith, c .times-in .ensures, ceil-le (s .args .t) (s .args .period) (omega arith))) (omega arith) }
+    record { fits = product-fits (omega (arith, c .releases .ensures, ceil-le (s .args .t) (s .args .period) (omega arith))) (omega arith) }
 
 returns : tie.Need-returns
-returns c = rw (c .times-in .ensures)
+returns c = rw (c .releases .ensures)
 
 pub next-time-spec : {M : Type 1} → statement M
-next-time-spec = tie.close (tie.spec times-in-requires mul-result returns)
+next-time-spec = tie.close (tie.spec releases-requires mul-result returns)

@@ -1,6 +1,6 @@
 -- `planner_c::planner_name` meets its contract: the stretch of `planner::name_stretch`, with its outcome as number and place.
 -- Assumes nothing.
-use mathlib.Core.Path.{sym, ap, _∙_}
+use mathlib.Core.Path.{ap, _∙_}
 use borrow.Author.Needs.{needs}
 use Rattle.refusal.specs.Number.{numberOf, placeOf}
 use Rattle.scan.specs.Scan.{bytesOf}

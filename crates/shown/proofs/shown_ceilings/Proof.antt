@@ -1,12 +1,9 @@
 -- `shown::shown_ceilings` meets its contract: each turn fills one place.
 -- Assumes nothing.
-use Prim.Native.Nat.{ℕ, suc, _-_, _≤_, _<_}
+use Prim.Native.Nat.{suc, _-_, _≤_, _<_}
 use native.Mathlib.Omega.{arith}
-use borrow.Author.Needs.{needs}
-use mathlib.Core.Path.{_≡_, ap, _∙_}
-use lib.ListN.{getD}
+use mathlib.Core.Path.{ap, _∙_}
 use Rattle.least.proofs.Fill.{Filled, fill-start, fill-step}
-use Rattle.task_set.specs.declared.Part.{Part}
 use Rattle.task_set.specs.Tasks.{tasksOf}
 use Rattle.task_set.proofs.ByColumn.{columns-fine}
 use Rattle.task_set.proofs.ByLock.{longest-most, deadline-most}

@@ -1,44 +1,45 @@
--- `load::demand_from` meets its contract. The invariant: what is summed and what the rows from the place k on ask for make up the whole.
+-- `demand::demand_from` meets its contract. The invariant: what is summed and what those from the place k on ask for make up the whole.
 -- Assumes nothing.
 use Prim.Native.Nat.{_+_, _-_, _*_, _^_, _≤_}
 use mathlib.Core.Path.{_≡_}
 use lib.ListN.{getD}
 use native.Mathlib.Numerals.{add-one}
 use native.Mathlib.Omega.{arith}
-use Rattle.load.proofs.Shares.{askedFrom, shares-none, shares-next, shares-small}
-use Rattle.load.proofs.demand_from.Statement.{statement}
-use Rattle.load.proofs.demand_from.Tie as tie
+use Rattle.demand.specs.Demand.{demandFrom}
+use Rattle.demand.proofs.Demand.{demand-none, demand-next, demand-small}
+use Rattle.demand.proofs.demand_from.Statement.{statement}
+use Rattle.demand.proofs.demand_from.Tie as tie
 
 abbrev Inv-loop : tie.InvT-loop
-Inv-loop periods sums n s t sum₀ k₀ sum k = sum + askedFrom periods sums n k t ≡ askedFrom periods sums n s t
+Inv-loop periods costs n s t sum₀ k₀ sum k = sum + demandFrom periods costs n k t ≡ demandFrom periods costs n s t
 
 abbrev μ-loop : tie.MeasureT-loop
-μ-loop periods sums n s t sum₀ k₀ sum k = n - k
+μ-loop periods costs n s t sum₀ k₀ sum k = n - k
 
 -- the whole is small, and so is the sum
-whole : (c : tie.Start Inv-loop μ-loop) → askedFrom (c .args .periods .now) (c .args .sums .now) (c .args .n) (c .args .s) (c .args .t) ≤ 2 ^ 46
-whole c = shares-small (c .args .periods .now) (c .args .sums .now) (c .args .n) (c .pre .0) (c .args .s) (c .args .t) (c .pre .2)
+whole : (c : tie.Start Inv-loop μ-loop) → demandFrom (c .args .periods .now) (c .args .costs .now) (c .args .n) (c .args .s) (c .args .t) ≤ 2 ^ 46
+whole c = demand-small (c .args .periods .now) (c .args .costs .now) (c .args .n) (c .pre .0) (c .args .t) (c .pre .2) (c .args .s)
 
 -- what the turn adds, and what is left
 turn : (c : tie.After-sum Inv-loop μ-loop) →
     let a = c .before .before .before .before .before .args in
     let k = c .before .before .before .before .loop .k in
-    askedFrom (a .periods .now) (a .sums .now) (a .n) k (a .t) ≡ c .before .times-in .result * getD (a .sums .now) k 0 + askedFrom (a .periods .now) (a .sums .now) (a .n) (k + 1) (a .t)
+    demandFrom (a .periods .now) (a .costs .now) (a .n) k (a .t) ≡ c .before .releases .result * getD (a .costs .now) k 0 + demandFrom (a .periods .now) (a .costs .now) (a .n) (k + 1) (a .t)
 turn c =
     let a = c .before .before .before .before .before .args in
-    rw (c .before .times-in .ensures, add-one) (shares-next (a .periods .now) (a .sums .now) (a .n) (c .before .before .before .before .loop .k) (a .t) (c .before .before .before .loop-test .taken))
+    rw (c .before .releases .ensures, add-one) (demand-next (a .periods .now) (a .costs .now) (a .n) (c .before .before .before .before .loop .k) (a .t) (c .before .before .before .loop-test .taken))
 
 loop-holds : tie.Need-loop-holds Inv-loop μ-loop
 loop-holds c = omega arith
 
-mul-times-in : tie.Need-mul-times-in Inv-loop μ-loop
-mul-times-in c = omega (arith, c .before .before .pre .0 .fine .few)
+mul-releases : tie.Need-mul-releases Inv-loop μ-loop
+mul-releases c = omega (arith, c .before .before .pre .0 .fine .few)
 
-element-copy-out-times-in : tie.Need-element-copy-out-times-in Inv-loop μ-loop
-element-copy-out-times-in c = omega (arith, c .before .before .pre .0 .fine .few)
+element-copy-out-releases : tie.Need-element-copy-out-releases Inv-loop μ-loop
+element-copy-out-releases c = omega (arith, c .before .before .pre .0 .fine .few)
 
-times-in-requires : tie.Need-times-in-requires Inv-loop μ-loop
-times-in-requires c κs =
+releases-requires : tie.Need-releases-requires Inv-loop μ-loop
+releases-requires c κs =
     let fine = c .before .before .before .pre .0 .fine in
     let k = c .before .before .loop .k in
     omega (arith, fine .some k (c .before .loop-test .taken), fine .most k (c .before .loop-test .taken))
@@ -67,7 +68,7 @@ loop-again c = omega (arith, turn c)
 returns : tie.Need-returns Inv-loop μ-loop
 returns c =
     let s = c .before .before in
-    let none = shares-none (s .args .periods .now) (s .args .sums .now) (s .args .n) (c .before .loop .k) (s .args .t) (c .loop-test .left) in
+    let none = demand-none (s .args .periods .now) (s .args .costs .now) (s .args .n) (c .before .loop .k) (s .args .t) (c .loop-test .left) in
     record { value = omega (arith, none); small = omega (arith, none, whole s) }
 
 pub demand-from-spec : {M : Type 1} → statement M
@@ -77,9 +78,9 @@ demand-from-spec =
     Inv-loop
     μ-loop
     loop-holds
-    mul-times-in
-    element-copy-out-times-in
-    times-in-requires
+    mul-releases
+    element-copy-out-releases
+    releases-requires
     mul-sum
     element-copy-out-sum
     mul-sum-2

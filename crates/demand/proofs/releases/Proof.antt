@@ -1,14 +1,14 @@
--- `task_set::releases` meets its contract: in at most T ticks a task comes once.
+-- `demand::releases` meets its contract: in at most P ticks a task comes once.
 -- Assumes nothing.
 use native.Mathlib.Omega.{arith}
 use Rattle.least.proofs.Round.{ceil-least, ceil-pos}
-use Rattle.task_set.proofs.releases.Statement.{statement}
-use Rattle.task_set.proofs.releases.Tie as tie
+use Rattle.demand.proofs.releases.Statement.{statement}
+use Rattle.demand.proofs.releases.Tie as tie
 
 returns : tie.Need-returns
 returns c =
     let s = c .before in
-    omega (arith, ceil-least (s .args .w) (s .args .separation) 1 (omega arith) (omega arith), ceil-pos (s .args .w) (s .args .separation) (omega arith) (omega arith))
+    omega (arith, ceil-least (s .args .t) (s .args .period) 1 (omega arith) (omega arith), ceil-pos (s .args .t) (s .args .period) (omega arith) (omega arith))
 
 ceil-div-requires : tie.Need-ceil-div-requires
 ceil-div-requires c κs = omega arith

@@ -1,0 +1,30 @@
+// What tasks, or rows, that come again and again ask for. They are lent by columns: the periods in one array, the costs in another.
+ghost use mathlib.Core.Path.{_≡_};
+ghost use Prim.Native.Nat.{_^_, _≤_};
+ghost use Rattle.least.specs.Round.{ceilDiv};
+ghost use Rattle.demand.specs.Demand.{FineDemand, DemandIs};
+
+// How often a task with this period comes in t ticks. Often it is once, and nothing is divided.
+pub fn releases(t: u64, period: u64) -> u64
+    requires { ⌜ (1 ≤ t) × (t ≤ 2 ^ 20) × (1 ≤ period) × (period ≤ 2 ^ 20) ⌝ }
+    ensures { λ r. ⌜ r ≡ ceilDiv t period ⌝ }
+{
+    if t <= period {
+        return 1;
+    }
+    least::ceil_div(t, period)
+}
+
+// What the tasks from the place s on, of n, ask for in t ticks.
+pub fn demand_from(periods: &[u64; 16], costs: &[u64; 16], n: usize, s: usize, t: u64) -> u64
+    requires { ⌜ FineDemand (now periods) (now costs) n × (1 ≤ t) × (t ≤ 2 ^ 20) ⌝ }
+    ensures { λ x. ⌜ DemandIs (now (periods .entry)) (now (costs .entry)) n s t x ⌝ }
+{
+    let mut sum: u64 = 0;
+    let mut k = s;
+    while k < n {
+        sum += releases(t, periods[k]) * costs[k];
+        k += 1;
+    }
+    sum
+}
