@@ -27,6 +27,7 @@ use Rattle.load.specs.declared.Row.{Row}
 use Rattle.load.specs.Load.{loadOf, passesSystem}
 use Rattle.load.proofs.Load.{loadOf-ok}
 use Rattle.selection.specs.Selection.{choices, leastLoaded}
+use Rattle.selection.specs.Questions.{choiceQuestions}
 use Rattle.selection.proofs.Selection.{leastLoaded-member, leastLoaded-least, some-passes}
 use Rattle.selection.proofs.Greatest.{member-some, leastLoaded-greatest}
 use Rattle.plan_file.specs.Above.{FilePart, noPart}
@@ -111,11 +112,11 @@ module _ (ps : List FilePart) where
   -- questions 10, 11 and 14 in their order
   module _ (room : ℕ) where
     pub refused-10 : everyKept ≡ false → planParts ps room ≡ refused (NoBudget (firstOf isEmpty (map keptRows ps)))
-    unfolding planParts planQuestions whenDone firstNo
+    unfolding planParts planQuestions choiceQuestions whenDone firstNo
     refused-10 e = simp e
 
     pub refused-11 : everyKept ≡ true → some passesSystem keptChoices ≡ false → planParts ps room ≡ refused NoChoice
-    unfolding planParts planQuestions whenDone firstNo
+    unfolding planParts planQuestions choiceQuestions whenDone firstNo
     refused-11 e f = simp (e, f)
 
     text-or-14 : (b : Bool) → whenDone (cond b Done (Refused NoRoom)) (answered text) ≡ cond b (answered text) (refused NoRoom)
@@ -124,7 +125,7 @@ module _ (ps : List FilePart) where
     text-or-14 false = refl
 
     pub planned-or-14 : everyKept ≡ true → some passesSystem keptChoices ≡ true → planParts ps room ≡ cond (leb (length text) room) (answered text) (refused NoRoom)
-    unfolding planParts planQuestions firstNo
+    unfolding planParts planQuestions choiceQuestions firstNo
     planned-or-14 e f = simp (e, f) (text-or-14 (leb (length text) room))
 
 pub plan-parts : (s : List ℕ) (ps : List FilePart) (room : ℕ) → readFile s ≡ answered ps → planOf s room ≡ planParts ps room

@@ -12,9 +12,9 @@ use mathlib.Core.Bool.{Bool, not, _&&_}
 use mathlib.Core.List.{List, [], _∷_, _++_, map}
 use lib.Dec.{leb}
 use lib.ListN.{length, drop}
-use Rattle.least.specs.Lists.{isEmpty, every, some, firstOf, nthOr}
+use Rattle.least.specs.Lists.{isEmpty, nthOr}
 use Rattle.refusal.specs.declared.Outcome.the-variants.{Done, Refused}
-use Rattle.refusal.specs.declared.Refusal.the-variants.{NoBudget, NoChoice, BadHandSet, NoRoom}
+use Rattle.refusal.specs.declared.Refusal.the-variants.{NoBudget, BadHandSet, NoRoom}
 use Rattle.refusal.specs.Limits.{numberLimit}
 use Rattle.refusal.specs.Questions.{Question, ask, firstNo, Answer, whenAnswered, whenDone}
 use Rattle.refusal.specs.Questions.Answer.{answered, refused}
@@ -22,8 +22,9 @@ use Rattle.supply.specs.Supply.{supplyOf}
 use Rattle.candidates.specs.declared.Pair.{Pair}
 use Rattle.candidates.specs.Candidates.{keptAnswer}
 use Rattle.load.specs.declared.Row.{Row}
-use Rattle.load.specs.Load.{boundsOf, passesSystem}
+use Rattle.load.specs.Load.{boundsOf}
 use Rattle.selection.specs.Selection.{choices, leastLoaded}
+use Rattle.selection.specs.Questions.{choiceQuestions}
 use Rattle.plan_file.specs.Above.{FilePart, noPart}
 use Rattle.plan_file.specs.Reading.{readFile}
 use Rattle.listing.specs.Listing.{listingOf}
@@ -41,11 +42,7 @@ planText parts rows = listingOf (sharesOf parts rows (boundsOf rows))
 
 -- questions 10, 11 and 14
 unfoldable pub planQuestions : List (List Row) → List ℕ → ℕ → List Question
-planQuestions kept text room =
-    ask (NoBudget (firstOf isEmpty kept)) (every (λ rows. not (isEmpty rows)) kept)
-    ∷ ask NoChoice (some passesSystem (choices kept))
-    ∷ ask NoRoom (leb (length text) room)
-    ∷ []
+planQuestions kept text room = choiceQuestions kept ++ (ask NoRoom (leb (length text) room) ∷ [])
 
 unfoldable pub planParts : List FilePart → ℕ → Answer (List ℕ)
 planParts parts room =

@@ -16,6 +16,7 @@ use Rattle.candidates.specs.Candidates.{settings, candidateOf, candidatesIn, is
 use Rattle.load.specs.Load.{demandOf, loadAt, rowPasses, passesSystem, ratio, boundOf, boundsOf, loadOf, loadRow}
 use Rattle.load.specs.Weigh.{rowInRange, weighQuestions, weighed, weighOf}
 use Rattle.selection.specs.Selection.{choices, lighter, leastLoaded}
+use Rattle.selection.specs.Questions.{choiceQuestions}
 use Rattle.scan.specs.Line.{isAllowed, lineIsGood}
 use Rattle.fields.specs.Fields.{isNameByte, isName, leadingZero, isNumber}
 use Rattle.records.specs.Records.{recordOf}
@@ -30,5 +31,5 @@ use Rattle.examples.specs.Files.{fileA, listingA, cardAt, listingC, list
 use Rattle.examples.specs.Table.{partsIn, isOn}
 
 unfoldable pub opened : Unit {0}
-unfolding ceilDiv leastFrom anyFrom numberOr0 sum greatest smallest countFrom range isEmpty nthOr every some those joined numbersFrom firstFrom lastOr onLast pad everyBehind behind lesser greater leastOver greatestOf bytes same among mention distinctAfter intoLine linesOf intoField fieldsOf lineOf isDigit valueAfter digitsWithin digitsOf firstNo outcomeOf whenAnswered whenDone roundOf supplyAt supplyOf heldFor demandIn lowestCeiling greatestHeld smallestDeadline blockedBy blockingOf needOf held holdingOf inRange exists permitted holdingTimeOf taskPasses passes leastBudget settings candidateOf candidatesIn isKept insertByX inFallingX keptAmong keptList keptAnswer shownCeiling demandOf loadAt rowPasses passesSystem ratio boundOf boundsOf loadOf loadRow rowInRange weighQuestions weighed weighOf choices lighter leastLoaded isAllowed lineIsGood isNameByte isName leadingZero isNumber recordOf lockMentions lockNames partsAfter isPart isEnd allowedHere partQuestions taskQuestions lockQuestions recordQuestions questionsAt readLines readFile heldUnder taskIn locksIn tasksIn ceilingLine shareLine shareLines loadLine loadShare listingOf refusedLine keptPairs keptRows ceilingsFrom shareOf sharesOf planRows planText planQuestions planParts planOf candidatesOf nameOf supplyAnswer planned bufferAfter candidateList nameBytes supplied fileA listingA cardAt listingC listingD fileF onePart listingI partsIn isOn
+unfolding ceilDiv leastFrom anyFrom numberOr0 sum greatest smallest countFrom range isEmpty nthOr every some those joined numbersFrom firstFrom lastOr onLast pad everyBehind behind lesser greater leastOver greatestOf bytes same among mention distinctAfter intoLine linesOf intoField fieldsOf lineOf isDigit valueAfter digitsWithin digitsOf firstNo outcomeOf whenAnswered whenDone roundOf supplyAt supplyOf heldFor demandIn lowestCeiling greatestHeld smallestDeadline blockedBy blockingOf needOf held holdingOf inRange exists permitted holdingTimeOf taskPasses passes leastBudget settings candidateOf candidatesIn isKept insertByX inFallingX keptAmong keptList keptAnswer shownCeiling demandOf loadAt rowPasses passesSystem ratio boundOf boundsOf loadOf loadRow rowInRange weighQuestions weighed weighOf choices lighter leastLoaded choiceQuestions isAllowed lineIsGood isNameByte isName leadingZero isNumber recordOf lockMentions lockNames partsAfter isPart isEnd allowedHere partQuestions taskQuestions lockQuestions recordQuestions questionsAt readLines readFile heldUnder taskIn locksIn tasksIn ceilingLine shareLine shareLines loadLine loadShare listingOf refusedLine keptPairs keptRows ceilingsFrom shareOf sharesOf planRows planText planQuestions planParts planOf candidatesOf nameOf supplyAnswer planned bufferAfter candidateList nameBytes supplied fileA listingA cardAt listingC listingD fileF onePart listingI partsIn isOn
 opened = tt

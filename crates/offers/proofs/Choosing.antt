@@ -25,12 +25,13 @@ use Rattle.load.specs.Weigh.{rowsFrom}
 use Rattle.load.specs.ByColumn.{rowAt, rowsBy}
 use Rattle.selection.specs.declared.Choice.{Choice}
 use Rattle.selection.specs.Selection.{choices, leastLoaded}
+use Rattle.selection.specs.Questions.{choiceQuestions}
 use Rattle.selection.specs.Code.{offersOf, ChoiceIs}
 use Rattle.reader.specs.declared.PlanFile.{PlanFile}
 use Rattle.offers.specs.declared.Offers.{Offers}
 use Rattle.offers.specs.declared.PlanRows.{PlanRows}
 use Rattle.offers.specs.Gathered.{listIn, FineParts, Gathered}
-use Rattle.offers.specs.Least.{partRows, rowsIn, noRows, choiceQuestions, planRowsWhen, planRowsOf}
+use Rattle.offers.specs.Least.{partRows, rowsIn, noRows, planRowsWhen, planRowsOf}
 use Rattle.offers.proofs.Rows.{offers-are}
 
 -- the rows of a choice, put into the array one after another

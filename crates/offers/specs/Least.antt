@@ -1,24 +1,22 @@
--- Questions 10 and 11, and the rows of least load, of a file that was read.
+-- The rows of least load of a file that was read.
 --   partRows f k     == the kept pairs of the part at the place k as rows
 --   rowsIn f         == those of each part, in file order
 --   noRows r         == the refusal r, and no rows
---   choiceQuestions kept == questions 10 and 11, where the parts offer the rows `kept`
 --   planRowsOf f     == the rows of least load, or the first no among 10 and 11
 -- Assumes nothing.
 use Prim.Native.Nat.{ℕ}
-use mathlib.Core.Bool.{not}
-use mathlib.Core.List.{List, [], _∷_, map}
+use mathlib.Core.List.{List, [], map}
 use lib.ListN.{length}
-use Rattle.least.specs.Lists.{isEmpty, every, some, firstOf, countFrom}
+use Rattle.least.specs.Lists.{countFrom}
 use Rattle.refusal.specs.declared.Refusal.{Refusal}
-use Rattle.refusal.specs.declared.Refusal.the-variants.{NoBudget, NoChoice}
 use Rattle.refusal.specs.declared.Outcome.{Outcome}
 use Rattle.refusal.specs.declared.Outcome.the-variants.{Done, Refused}
-use Rattle.refusal.specs.Questions.{Question, ask, firstNo}
+use Rattle.refusal.specs.Questions.{firstNo}
 use Rattle.load.specs.declared.Row.{Row}
-use Rattle.load.specs.Load.{row, passesSystem}
+use Rattle.load.specs.Load.{row}
 use Rattle.load.specs.Weigh.{rowsFrom}
 use Rattle.selection.specs.Selection.{choices, leastLoaded}
+use Rattle.selection.specs.Questions.{choiceQuestions}
 use Rattle.reader.specs.declared.PlanFile.{PlanFile}
 use Rattle.offers.specs.declared.PlanRows.{PlanRows}
 use Rattle.offers.specs.Gathered.{partIn, listIn}
@@ -31,10 +29,6 @@ rowsIn f = map (partRows f) (countFrom 0 (f .count))
 
 abbrev pub noRows : Refusal → PlanRows
 noRows r = record { outcome = Refused r; rows = rowsFrom [] 0 }
-
-unfoldable pub choiceQuestions : List (List Row) → List Question
-choiceQuestions kept =
-    ask (NoBudget (firstOf isEmpty kept)) (every (λ rows. not (isEmpty rows)) kept) ∷ ask NoChoice (some passesSystem (choices kept)) ∷ []
 
 unfoldable pub planRowsWhen : Outcome → List (List Row) → PlanRows
 planRowsWhen Done kept = record { outcome = Done; rows = rowsFrom (leastLoaded (choices kept)) (length kept) }

@@ -19,6 +19,7 @@ use Rattle.refusal.proofs.Answers.{answered-not-refused, answered-same, refused
 use Rattle.refusal.proofs.Questions.{refused-iff, only-first, first-of-two, first-of-three, asked-iff}
 use Rattle.load.specs.declared.Row.{Row}
 use Rattle.load.specs.Weigh.{weighQuestions, weighed, weighOf}
+use Rattle.selection.specs.Questions.{choiceQuestions}
 use Rattle.plan_file.specs.Above.{FilePart}
 use Rattle.plan_file.specs.Reading.{readFile}
 use Rattle.plan_file.proofs.Reading.{read-refused-iff, read-answered-iff}
@@ -100,7 +101,7 @@ answered-fits s room text e = go (readFile s) refl
     go (refused r) f = absurd (answered-not-refused (sym e ∙ plan-unread s r f room))
 
 pub demand-1 : Demand1
-unfolding planQuestions weighQuestions bufferAfter
+unfolding planQuestions choiceQuestions weighQuestions bufferAfter
 demand-1 = record {
   plan = λ s room r e. numbered (λ parts f. some-budget (first-of-three _ _ _ r f)) (demand-2 .plan s room r .0 e);
   candidates = λ s k r e. numbered (λ parts f. first-of-two _ _ r f) (demand-2 .candidates s k r .0 e);

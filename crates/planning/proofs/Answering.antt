@@ -3,8 +3,8 @@
 use Prim.Native.Nat.{ℕ, suc, _≤_, _<_}
 use native.Mathlib.Omega.{arith}
 use mathlib.Core.Path.{_≡_, refl, sym, ap, ap₂, _∙_}
-use mathlib.Core.Bool.{Bool, true, false, cond}
-use mathlib.Core.List.{List, [], _∷_, _++_, map}
+use mathlib.Core.Bool.{true, cond}
+use mathlib.Core.List.{List, _++_, map}
 use borrow.Author.Tests.{le-leb, lt-leb}
 use lib.Dec.{leb}
 use lib.ListN.{length, take, drop, length-map}
@@ -21,11 +21,10 @@ use Rattle.refusal.specs.declared.Refusal.the-variants.{NoRoom}
 use Rattle.refusal.specs.declared.Outcome.{Outcome}
 use Rattle.refusal.specs.declared.Outcome.the-variants.{Done, Refused}
 use Rattle.refusal.specs.Limits.{rowLimit}
-use Rattle.refusal.specs.Questions.{Question, Answer, firstNo, whenAnswered, whenDone}
+use Rattle.refusal.specs.Questions.{Answer, firstNo, whenAnswered, whenDone}
 use Rattle.refusal.specs.Questions.Answer.{answered, refused}
-use Rattle.refusal.proofs.Answers.{done-not-refused}
 use Rattle.refusal.specs.FirstNo.{allYes}
-use Rattle.refusal.proofs.Questions.{done-iff, yes-next, no-answers}
+use Rattle.refusal.proofs.Questions.{refused-before, done-iff}
 use Rattle.load.specs.declared.Row.{Row}
 use Rattle.load.specs.declared.Rows.{Rows}
 use Rattle.load.specs.declared.Weighed.{Weighed}
@@ -34,6 +33,7 @@ use Rattle.load.specs.Weigh.{rowsOf, rowsFrom, weighed, weighRows}
 use Rattle.load.proofs.Load.{boundsOf-length}
 use Rattle.writer.specs.Written.{Written}
 use Rattle.selection.specs.Selection.{choices, leastLoaded}
+use Rattle.selection.specs.Questions.{choiceQuestions}
 use Rattle.plan_file.specs.Reading.{readFile}
 use Rattle.plan_file.proofs.Reading.{read-answered-iff}
 use Rattle.plan_file.proofs.Fine.{read-fine}
@@ -42,7 +42,7 @@ use Rattle.reader.specs.declared.PlanFile.{PlanFile}
 use Rattle.reader.specs.Reader.{ReadIs}
 use Rattle.reader.proofs.Handed.{Handed}
 use Rattle.offers.specs.declared.PlanRows.{PlanRows}
-use Rattle.offers.specs.Least.{rowsIn, choiceQuestions, planRowsWhen, planRowsOf}
+use Rattle.offers.specs.Least.{rowsIn, planRowsWhen, planRowsOf}
 use Rattle.printing.specs.Printing.{sharesRead, listingAt, sharesIn, ToPrint}
 use Rattle.answers.specs.declared.Planned.{Planned}
 use Rattle.answers.specs.Parts.{keptRows, sharesOf}
@@ -67,35 +67,25 @@ unfolding planRowsWhen
 outcome-is Done kept = refl
 outcome-is (Refused r) kept = refl
 
-none-no : firstNo [] ≡ Done
-unfolding firstNo
-none-no = refl
-
--- one question more
-refused-first : (x y z : Question) (r : Refusal) → firstNo (x ∷ y ∷ []) ≡ Refused r → firstNo (x ∷ y ∷ z ∷ []) ≡ Refused r
-refused-first x y z r e = go (x .yes) refl (y .yes) refl
-  where
-    go : (a : Bool) → x .yes ≡ a → (b : Bool) → y .yes ≡ b → firstNo (x ∷ y ∷ z ∷ []) ≡ Refused r
-    go false p b q = no-answers x (y ∷ z ∷ []) p ∙ sym (no-answers x (y ∷ []) p) ∙ e
-    go true p false q = yes-next x (y ∷ z ∷ []) p ∙ no-answers y (z ∷ []) q ∙ sym (yes-next x (y ∷ []) p ∙ no-answers y [] q) ∙ e
-    go true p true q = absurd (done-not-refused (sym (yes-next x (y ∷ []) p ∙ yes-next y [] q ∙ none-no) ∙ e))
-
 module _ (s : List ℕ) (f : PlanFile) (is : ReadIs s f) (h : Handed s f) (p : PlanRows) (p-is : p ≡ planRowsOf f) where
   questions-are : firstNo (choiceQuestions (rowsIn f)) ≡ p .outcome
   unfolding planRowsOf
   questions-are = sym (ap (λ (x : PlanRows). x .outcome) p-is ∙ outcome-is (firstNo (choiceQuestions (rowsIn f))) (rowsIn f))
 
+  kept-questions-are : firstNo (choiceQuestions (map keptRows (h .parts))) ≡ p .outcome
+  kept-questions-are = ap (λ (kept : List (List Row)). firstNo (choiceQuestions kept)) (rows-same s f is h) ∙ questions-are
+
   -- questions 10 and 11
   pub plan-refused : (r : Refusal) → p .outcome ≡ Refused r → (room : ℕ) → planOf s room ≡ refused r
-  unfolding planParts planQuestions choiceQuestions whenDone
+  unfolding planParts planQuestions whenDone
   plan-refused r e room =
       plan-parts s (h .parts) room (h .reads)
-      ∙ ap (λ (o : Outcome). whenDone o (answered (text (h .parts)))) (refused-first _ _ _ r (ap (λ (kept : List (List Row)). firstNo (choiceQuestions kept)) (rows-same s f is h) ∙ questions-are ∙ e))
+      ∙ ap (λ (o : Outcome). whenDone o (answered (text (h .parts)))) (refused-before (choiceQuestions (map keptRows (h .parts))) _ r (kept-questions-are ∙ e))
 
   -- some choice passes
   module _ (done : p .outcome ≡ Done) where
     yes-both : allYes (choiceQuestions (map keptRows (h .parts))) ≡ true
-    yes-both = done-iff (choiceQuestions (map keptRows (h .parts))) .0 (ap (λ (kept : List (List Row)). firstNo (choiceQuestions kept)) (rows-same s f is h) ∙ questions-are ∙ done)
+    yes-both = done-iff (choiceQuestions (map keptRows (h .parts))) .0 (kept-questions-are ∙ done)
 
     every-part : everyKept (h .parts) ≡ true
     unfolding choiceQuestions allYes

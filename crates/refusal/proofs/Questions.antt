@@ -50,6 +50,15 @@ first-no (q ∷ qs) r after h = go (q .yes) refl (first-no qs r after)
 pub refused-iff : (qs : List Question) (r : Refusal) → (firstNo qs ≡ Refused r) ↔ FirstNo qs r
 refused-iff qs r = (no-first qs r, λ f. ap firstNo (f .2) ∙ first-no (f .0) r (f .1) (f .3))
 
+-- further questions do not change a refusal
+pub refused-before : (qs more : List Question) (r : Refusal) → firstNo qs ≡ Refused r → firstNo (qs ++ more) ≡ Refused r
+refused-before [] more r e = absurd (done-not-refused (done-none ∙ e))
+refused-before (q ∷ qs) more r e = go (q .yes) refl (refused-before qs more r)
+  where
+    go : (t : Bool) → q .yes ≡ t → (firstNo qs ≡ Refused r → firstNo (qs ++ more) ≡ Refused r) → firstNo (q ∷ (qs ++ more)) ≡ Refused r
+    go true p ih = yes-next q (qs ++ more) p ∙ ih (sym (yes-next q qs p) ∙ e)
+    go false p ih = no-answers q (qs ++ more) p ∙ sym (no-answers q qs p) ∙ e
+
 all-done : (qs : List Question) → allYes qs ≡ true → firstNo qs ≡ Done
 unfolding allYes
 all-done [] h = sym done-none

@@ -1,5 +1,8 @@
 -- The turns of `select`, on plain values.
 --   Selecting .. places best sums held == the descent has come to these places; `best` is fine, and so are the columns if a choice is recorded
+--   Turn ..                   == the state of a turn: the places that the descent has come to, the best choice so far, and the columns at the places
+--   rowsNow t                 == the rows of these columns
+--   Turned t best sums held x == with this best choice the descent has come to the places, and a row whose bound is not below `best` is blocked by x
 -- Assumes nothing.
 use Prim.Native.Nat.{ℕ, _+_, _-_, _*_, _≤_, _<_}
 use native.Mathlib.Omega.{arith}
@@ -16,9 +19,8 @@ use Rattle.least.specs.Fraction.{noBound, _⊑_, _⊏_}
 use Rattle.least.proofs.Lists.{count-from, map-same}
 use Rattle.least.proofs.Fraction.{Finite, ⊑-refl, noBound-not-finite}
 use Rattle.load.specs.declared.Row.{Row}
-use Rattle.load.specs.Load.{row}
 use Rattle.load.specs.ByColumn.{rowAt, rowsBy, FineColumns}
-use Rattle.load.specs.Code.{noRow}
+use Rattle.load.specs.Code.{noRow, FineRow}
 use Rattle.load.proofs.RowsBy.{rows-length}
 use Rattle.selection.specs.declared.Columns.{Columns}
 use Rattle.selection.specs.declared.Stuck.{Stuck}
@@ -34,132 +36,162 @@ pub record Selecting (periods budgets holdings counts : List ℕ) (n : ℕ) (pla
   pub fine-best : FineBest best
   pub columns : Finite best → FineColumns periods sums held n
 
--- the row at some place has a bound of at least `best`, and is blocked by x
-pub record ReachedAt (rows : List Row) (best : Frac) (x : ℕ) : Type 0 where
+pub record Turn (periods budgets holdings counts : List ℕ) (n : ℕ) : Type 0 where
+  pub fine : FineOffers periods budgets holdings counts n
+  pub places : List ℕ
+  pub best : Frac
+  pub sums : List ℕ
+  pub held : List ℕ
+  pub selecting : Selecting periods budgets holdings counts n places best sums held
+  pub columns : Columns
+  pub columns-are : ColumnsAre budgets holdings places n columns
+
+abbrev pub rowsNow : {periods budgets holdings counts : List ℕ} {n : ℕ} → Turn periods budgets holdings counts n → List Row
+rowsNow {periods} {budgets} {holdings} {counts} {n} t = rowsBy periods (t .columns .sums) (t .columns .holdings) n
+
+pub record Turned {periods budgets holdings counts : List ℕ} {n : ℕ} (t : Turn periods budgets holdings counts n) (best : Frac) (sums held : List ℕ) (x : ℕ) : Type 0 where
+  pub selecting : Selecting periods budgets holdings counts n (t .places) best sums held
   pub place : ℕ
-  pub within : place < length rows
-  pub reaches : best ⊑ boundAt rows place
-  pub blocked : x ≡ heldBefore rows place
+  pub within : place < length (rowsNow t)
+  pub reaches : best ⊑ boundAt (rowsNow t) place
+  pub blocked : x ≡ heldBefore (rowsNow t) place
 
 pub turned-as : (P : Frac → List ℕ → List ℕ → ℕ → Type 0) {b b′ : Frac} {s s′ h h′ : List ℕ} {x x′ : ℕ} → b ≡ b′ → s ≡ s′ → h ≡ h′ → x ≡ x′ → P b′ s′ h′ x′ → P b s h x
 turned-as P e f g i p = rw (e, f, g, i) p
 
-module _ (periods budgets holdings counts : List ℕ) (n : ℕ) (fine : FineOffers periods budgets holdings counts n) where
-  pub selecting-starts : (sums held : List ℕ) → Selecting periods budgets holdings counts n (replicate 16 0) noBound sums held
-  selecting-starts sums held = record {
-    descending = descent-starts periods budgets holdings counts n fine (replicate 16 0) _ (length-replicate {A = ℕ} 16 0) (λ k h. getD-replicate {A = ℕ} 16 k 0 0 (omega (arith, fine .few)));
-    fine-best = record { proper = inl refl; num-most = omega arith; den-most = omega arith };
-    columns = λ f. absurd (noBound-not-finite f);
-  }
-
-  module _ (places : List ℕ) (placed : (k : ℕ) → k < n → getD places k 0 < getD counts k 0) where
-    pub places-below : (k : ℕ) → k < n → getD places k 0 < 121
-    places-below k h = omega (arith, placed k h, fine .counts-most k h)
-
-    pub places-fine : FinePlaces budgets holdings places n
-    places-fine = record {
-      few = fine .few;
-      within = places-below;
-      budgets-most = λ k h. fine .fine k (getD places k 0) h (placed k h) .budget-most;
-      holdings-most = λ k h. fine .fine k (getD places k 0) h (placed k h) .holding-most;
+module _ {periods budgets holdings counts : List ℕ} {n : ℕ} where
+  module _ (fine : FineOffers periods budgets holdings counts n) where
+    pub selecting-starts : (sums held : List ℕ) → Selecting periods budgets holdings counts n (replicate 16 0) noBound sums held
+    selecting-starts sums held = record {
+      descending = descent-starts periods budgets holdings counts n fine (replicate 16 0) _ (length-replicate {A = ℕ} 16 0) (λ k h. getD-replicate {A = ℕ} 16 k 0 0 (omega (arith, fine .few)));
+      fine-best = record { proper = inl refl; num-most = omega arith; den-most = omega arith };
+      columns = λ f. absurd (noBound-not-finite f);
     }
 
-    -- the rows at the places, by columns
-    module _ (c : Columns) (are : ColumnsAre budgets holdings places n c) where
-      pub columns-fine : FineColumns periods (c .sums) (c .holdings) n
-      columns-fine = record {
-        shares = record {
-          fine = record {
-            few = fine .few;
-            some = λ k h. fine .fine k (getD places k 0) h (placed k h) .period-some;
-            most = λ k h. fine .fine k (getD places k 0) h (placed k h) .period-most;
-          };
-          most = λ k h. let r = fine .fine k (getD places k 0) h (placed k h) in omega (arith, are .sums k h, r .budget-most, r .holding-most);
-        };
-        some = λ k h. let r = fine .fine k (getD places k 0) h (placed k h) in omega (arith, are .sums k h, r .budget-some);
-        holds = λ k h. omega (arith, are .sums k h, are .times k h);
+    module _ {places : List ℕ} {best : Frac} {sums held : List ℕ} (now : Selecting periods budgets holdings counts n places best sums held) where
+      pub places-below : (k : ℕ) → k < n → getD places k 0 < 121
+      places-below k h = omega (arith, now .descending .placed k h, fine .counts-most k h)
+
+      offer-fine : (k : ℕ) → k < n → FineRow (offerAt periods budgets holdings k (getD places k 0))
+      offer-fine k h = fine .fine k (getD places k 0) h (now .descending .placed k h)
+
+      pub places-fine : FinePlaces budgets holdings places n
+      places-fine = record {
+        few = fine .few;
+        within = places-below;
+        budgets-most = λ k h. offer-fine k h .budget-most;
+        holdings-most = λ k h. offer-fine k h .holding-most;
       }
 
-      pub columns-rows : rowsBy periods (c .sums) (c .holdings) n ≡ chosenAt periods budgets holdings counts n places
-      unfolding rowsBy chosenAt
-      columns-rows = map-same _ _ (countFrom 0 n) (λ k m. same k (omega (arith, count-from n 0 k m .1)))
-        where
-          same : (k : ℕ) → k < n → rowAt periods (c .sums) (c .holdings) k ≡ offerAt periods budgets holdings k (getD places k 0)
-          same k h =
-              let e : getD (c .sums) k 0 - getD (c .holdings) k 0 ≡ getD budgets (121 * k + getD places k 0) 0 = omega (arith, are .sums k h, are .times k h) in
-              rw (e, are .times k h) refl
-
   -- one turn: the rows at the places; a row whose bound is not below the least load so far; then a part that moves on
-  module _ (places : List ℕ) (best : Frac) (sums held : List ℕ) (now : Selecting periods budgets holdings counts n places best sums held)
-      (c : Columns) (are : ColumnsAre budgets holdings places n c) where
-    abbrev placed : (k : ℕ) → k < n → getD places k 0 < getD counts k 0
-    placed = now .descending .placed
+  module _ (t : Turn periods budgets holdings counts n) where
+    abbrev fine : FineOffers periods budgets holdings counts n
+    fine = t .fine
 
-    abbrev R : List Row
-    R = rowsBy periods (c .sums) (c .holdings) n
+    abbrev places : List ℕ
+    places = t .places
 
-    long : length R ≡ n
+    abbrev c : Columns
+    c = t .columns
+
+    abbrev are : ColumnsAre budgets holdings places n c
+    are = t .columns-are
+
+    abbrev rows : List Row
+    rows = chosenAt periods budgets holdings counts n places
+
+    long : length (rowsNow t) ≡ n
     long = rows-length periods (c .sums) (c .holdings) n
 
-    abbrev pub Turned : Frac → List ℕ → List ℕ → ℕ → Type 0
-    Turned best sums held x = Selecting periods budgets holdings counts n places best sums held × ReachedAt R best x
+    pub turn-places : (k : ℕ) → k < n → getD places k 0 < 121
+    turn-places = places-below fine (t .selecting)
 
-    module _ (r : Stuck) (stuck : StuckIs R best r) where
-      pub turn-stays : r .found ≡ true → Turned best sums held (r .blocking)
-      turn-stays e = let s = stuck .reaches e in (now, record { place = s .0; within = s .1; reaches = s .2; blocked = s .3 })
+    row-fine : (k : ℕ) → k < n → FineRow (offerAt periods budgets holdings k (getD places k 0))
+    row-fine = offer-fine fine (t .selecting)
 
-      pub turn-records : r .found ≡ false → (w : Weight) → HeaviestIs R w → Turned (w .bound) (c .sums) (c .holdings) (w .blocking)
+    pub turn-columns : FineColumns periods (c .sums) (c .holdings) n
+    turn-columns = record {
+      shares = record {
+        fine = record {
+          few = fine .few;
+          some = λ k h. row-fine k h .period-some;
+          most = λ k h. row-fine k h .period-most;
+        };
+        most = λ k h. omega (arith, are .sums k h, row-fine k h .budget-most, row-fine k h .holding-most);
+      };
+      some = λ k h. omega (arith, are .sums k h, row-fine k h .budget-some);
+      holds = λ k h. omega (arith, are .sums k h, are .times k h);
+    }
+
+    turn-rows : rowsNow t ≡ rows
+    unfolding rowsBy chosenAt
+    turn-rows = map-same _ _ (countFrom 0 n) (λ k m. same k (omega (arith, count-from n 0 k m .1)))
+      where
+        same : (k : ℕ) → k < n → rowAt periods (c .sums) (c .holdings) k ≡ offerAt periods budgets holdings k (getD places k 0)
+        same k h =
+            let e : getD (c .sums) k 0 - getD (c .holdings) k 0 ≡ getD budgets (121 * k + getD places k 0) 0 = omega (arith, are .sums k h, are .times k h) in
+            rw (e, are .times k h) refl
+
+    module _ (r : Stuck) (stuck : StuckIs (rowsNow t) (t .best) r) where
+      pub turn-stays : r .found ≡ true → Turned t (t .best) (t .sums) (t .held) (r .blocking)
+      turn-stays e = let s = stuck .reaches e in record { selecting = t .selecting; place = s .0; within = s .1; reaches = s .2; blocked = s .3 }
+
+      pub turn-records : r .found ≡ false → (w : Weight) → HeaviestIs (rowsNow t) w → Turned t (w .bound) (c .sums) (c .holdings) (w .blocking)
       turn-records e w heavy =
-          let f = columns-fine places placed c are in
           let p : heavy .place < n = omega (arith, heavy .within, long) in
-          let same = columns-rows places placed c are in
-          let below : w .bound ⊏ best = rw (heavy .bound) (stuck .below e (heavy .place) (heavy .within)) in
-          let load = load-below R (omega (arith, long, fine .some)) (heavy .above) in (
-            record {
-              descending = rw same (descent-records periods budgets holdings counts n fine places best _ (now .descending) (w .bound) (rw same at load) below);
-              fine-best = rw (heavy .bound) (boundAt-fine periods (c .sums) (c .holdings) n f (heavy .place) p);
-              columns = λ _. f;
-            },
-            record { place = heavy .place; within = heavy .within; reaches = rw (heavy .bound) (⊑-refl _); blocked = heavy .blocking },
-          )
-
-    module _ (best′ : Frac) (sums′ held′ : List ℕ) (x : ℕ) (turned : Turned best′ sums′ held′ x) (j : ℕ) (moves : MoverIs counts (c .holdings) places n x j) where
-      abbrev s : ℕ
-      s = turned .1 .place
-
-      within : s < n
-      within = omega (arith, turned .1 .within, long)
-
-      reaches : best′ ⊑ boundAt (chosenAt periods budgets holdings counts n places) s
-      reaches = rw (columns-rows places placed c are) at (turned .1 .reaches)
-
-      blocks : x ≡ heldBefore (chosenAt periods budgets holdings counts n places) s
-      blocks = rw (columns-rows places placed c are) at (turned .1 .blocked)
-
-      time-at : (k : ℕ) → k < n → getD (chosenAt periods budgets holdings counts n places) k noRow .holding ≡ getD (c .holdings) k 0
-      time-at k h = ap (λ (r : Row). r .holding) (chosen-get periods budgets holdings counts n places k h) ∙ sym (are .times k h)
-
-      none : (k : ℕ) → k < moves .first → getD (chosenAt periods budgets holdings counts n places) k noRow .holding ≡ x → ⊥
-      none k h e = moves .none k h (sym (time-at k (omega (arith, moves .within))) ∙ e)
-
-      holds : moves .first < n → getD (chosenAt periods budgets holdings counts n places) (moves .first) noRow .holding ≡ x
-      holds h = time-at (moves .first) h ∙ moves .holds h
-
-      pub turn-ends : n ≤ j → ChoiceIs periods budgets holdings counts n (record { found = ltb 0 (best′ .den); sums = sums′; holdings = held′ })
-      turn-ends h =
-          let d = turned .0 .descending in
-          let end = descent-stops periods budgets holdings counts n fine places best′ _ d s x (moves .first) within reaches blocks none holds (moves .stops h) in
+          let below : w .bound ⊏ t .best = rw (heavy .bound) (stuck .below e (heavy .place) (heavy .within)) in
+          let load = load-below (rowsNow t) (omega (arith, long, fine .some)) (heavy .above) in
           record {
-            found = descent-found periods budgets holdings counts n fine places best′ _ d end;
-            rows = descent-least periods budgets holdings counts n fine places best′ _ d end;
-            fine = λ f. turned .0 .columns (record { pos = ltb-true _ _ f });
+            selecting = record {
+              descending = rw turn-rows (descent-records periods budgets holdings counts n fine places (t .best) _ (t .selecting .descending) (w .bound) (rw turn-rows at load) below);
+              fine-best = rw (heavy .bound) (boundAt-fine periods (c .sums) (c .holdings) n turn-columns (heavy .place) p);
+              columns = λ _. turn-columns;
+            };
+            place = heavy .place;
+            within = heavy .within;
+            reaches = rw (heavy .bound) (⊑-refl _);
+            blocked = heavy .blocking;
           }
 
-      pub turn-moves : j < n → Selecting periods budgets holdings counts n (set places j (getD places j 0 + 1)) best′ sums′ held′
+    pub turn-fewer : (j : ℕ) → j < n → placesLeft counts n (set places j (getD places j 0 + 1)) < placesLeft counts n places
+    turn-fewer j h = fewer-left counts places n j (omega (arith, t .selecting .descending .room, fine .few)) h (t .selecting .descending .placed j h)
+
+    module _ {best : Frac} {sums held : List ℕ} {x : ℕ} (turned : Turned t best sums held x) {j : ℕ} (moves : MoverIs counts (c .holdings) places n x j) where
+      abbrev d : Descending periods budgets holdings counts n places best (rowsBy periods sums held n)
+      d = turned .selecting .descending
+
+      abbrev s : ℕ
+      s = turned .place
+
+      within : s < n
+      within = omega (arith, turned .within, long)
+
+      reaches : best ⊑ boundAt rows s
+      reaches = rw turn-rows at (turned .reaches)
+
+      blocks : x ≡ heldBefore rows s
+      blocks = rw turn-rows at (turned .blocked)
+
+      time-at : (k : ℕ) → k < n → getD rows k noRow .holding ≡ getD (c .holdings) k 0
+      time-at k h = ap (λ (r : Row). r .holding) (chosen-get periods budgets holdings counts n places k h) ∙ sym (are .times k h)
+
+      none : (k : ℕ) → k < moves .first → getD rows k noRow .holding ≡ x → ⊥
+      none k h e = moves .none k h (sym (time-at k (omega (arith, moves .within))) ∙ e)
+
+      holds : moves .first < n → getD rows (moves .first) noRow .holding ≡ x
+      holds h = time-at (moves .first) h ∙ moves .holds h
+
+      pub turn-ends : n ≤ j → ChoiceIs periods budgets holdings counts n (record { found = ltb 0 (best .den); sums = sums; holdings = held })
+      turn-ends h =
+          let end = descent-stops periods budgets holdings counts n fine places best _ d s x (moves .first) within reaches blocks none holds (moves .stops h) in
+          record {
+            found = descent-found periods budgets holdings counts n fine places best _ d end;
+            rows = descent-least periods budgets holdings counts n fine places best _ d end;
+            fine = λ f. turned .selecting .columns (record { pos = ltb-true _ _ f });
+          }
+
+      pub turn-moves : j < n → Selecting periods budgets holdings counts n (set places j (getD places j 0 + 1)) best sums held
       turn-moves h =
           let m = moves .moves h in
-          let d = descent-moves periods budgets holdings counts n fine places best′ _ (turned .0 .descending) s x (moves .first) within reaches blocks none holds (omega (arith, m .0)) (m .1) in
-          record { descending = rw (m .0) d; fine-best = turned .0 .fine-best; columns = turned .0 .columns }
-
-      pub turn-fewer : j < n → placesLeft counts n (set places j (getD places j 0 + 1)) < placesLeft counts n places
-      turn-fewer h = fewer-left counts places n j (omega (arith, now .descending .room, fine .few)) h (placed j h)
+          let next = descent-moves periods budgets holdings counts n fine places best _ d s x (moves .first) within reaches blocks none holds (omega (arith, m .0)) (m .1) in
+          record { descending = rw (m .0) next; fine-best = turned .selecting .fine-best; columns = turned .selecting .columns }

@@ -1,13 +1,10 @@
 -- `selection::select` meets its contract. The invariant: the descent has come to the places.
 -- Assumes nothing.
-use Prim.Native.Nat.{ℕ}
 use native.Mathlib.Omega.{arith}
 use mathlib.Core.Logic.{⊎-elim}
-use mathlib.Core.List.{List}
 use borrow.Author.Tests.{not-true, not-false}
-use Rattle.least.specs.declared.Frac.{Frac}
 use Rattle.selection.proofs.Descent.{placesLeft}
-use Rattle.selection.proofs.Selecting.{Selecting, selecting-starts, places-below, places-fine, columns-fine, Turned, turned-as, turn-stays, turn-records, turn-ends, turn-moves, turn-fewer}
+use Rattle.selection.proofs.Selecting.{Selecting, selecting-starts, places-fine, Turn, turn-places, turn-columns, Turned, turned-as, turn-stays, turn-records, turn-ends, turn-moves, turn-fewer}
 use Rattle.selection.proofs.select.Statement.{statement}
 use Rattle.selection.proofs.select.Tie as tie
 
@@ -17,112 +14,77 @@ Inv-loop periods budgets holdings counts n places₀ best₀ sums₀ held₀ pla
 abbrev μ-loop : tie.MeasureT-loop
 μ-loop periods budgets holdings counts n places₀ best₀ sums₀ held₀ places best sums held = placesLeft counts n places
 
+-- the turn, from the state behind `columns_at`
+abbrev TurnAt : tie.After-columns-at Inv-loop μ-loop → Type 0
+TurnAt c = let a = c .before .before .before .args in Turn (a .periods .now) (a .budgets .now) (a .holdings .now) (a .counts .now) (a .n)
+
+abbrev turn-of : (c : tie.After-columns-at Inv-loop μ-loop) → TurnAt c
+turn-of c = let l = c .before .before .loop in record {
+  fine = c .before .before .before .pre;
+  places = l .places;
+  best = l .best;
+  sums = l .sums;
+  held = l .held;
+  selecting = l .inv;
+  columns = c .columns-at .result;
+  columns-are = c .columns-at .ensures;
+}
+
+-- the same turn, from the states behind `first_reaching`, behind the `if` that records, and behind `mover`
+abbrev columns-of : tie.After-first-reaching Inv-loop μ-loop → tie.After-columns-at Inv-loop μ-loop
+columns-of c = c .before .before .before .before .before
+
+abbrev turn-at : (c : tie.Joined1 Inv-loop μ-loop) → TurnAt (columns-of (c .before .before))
+turn-at c = turn-of (columns-of (c .before .before))
+
+abbrev joined-of : tie.After-mover Inv-loop μ-loop → tie.Joined1 Inv-loop μ-loop
+joined-of c = c .before .before .before
+
 loop-holds : tie.Need-loop-holds Inv-loop μ-loop
-loop-holds c = let a = c .args in selecting-starts (a .periods .now) (a .budgets .now) (a .holdings .now) (a .counts .now) (a .n) (c .pre) _ _
+loop-holds c = selecting-starts (c .pre) _ _
 
 columns-at-requires : tie.Need-columns-at-requires Inv-loop μ-loop
-columns-at-requires c κs = let a = c .before .before .args in places-fine (a .periods .now) (a .budgets .now) (a .holdings .now) (a .counts .now) (a .n) (c .before .before .pre) (c .before .loop .places) (c .before .loop .inv .descending .placed)
+columns-at-requires c κs = places-fine (c .before .before .pre) (c .before .loop .inv)
 
 first-reaching-requires : tie.Need-first-reaching-requires Inv-loop μ-loop
-first-reaching-requires c κs =
-    let a = c .before .before .before .before .before .before .before .args in
-    let f = c .before .before .before .before .before .before .before .pre in
-    let l = c .before .before .before .before .before .before .loop in
-    let k = c .before .before .before .before .columns-at in
-    (columns-fine (a .periods .now) (a .budgets .now) (a .holdings .now) (a .counts .now) (a .n) f (l .places) (l .inv .descending .placed) (k .result) (k .ensures), l .inv .fine-best)
+first-reaching-requires c κs = let t = turn-of (c .before .before .before .before) in (turn-columns t, t .selecting .fine-best)
 
 heaviest-requires : tie.Need-heaviest-requires Inv-loop μ-loop
-heaviest-requires c κs =
-    let r = c .before .before .before .before in
-    let a = r .before .before .before .before .before .before .before .before .args in
-    let f = r .before .before .before .before .before .before .before .before .pre in
-    let l = r .before .before .before .before .before .before .before .loop in
-    let k = r .before .before .before .before .before .columns-at in
-    (columns-fine (a .periods .now) (a .budgets .now) (a .holdings .now) (a .counts .now) (a .n) f (l .places) (l .inv .descending .placed) (k .result) (k .ensures), f .some)
+heaviest-requires c κs = let t = turn-of (columns-of (c .before .before .before .before)) in (turn-columns t, t .fine .some)
 
--- the state behind the record
-abbrev reaching-of : tie.Joined1 Inv-loop μ-loop → tie.After-first-reaching Inv-loop μ-loop
-reaching-of c = c .before .before
-
-abbrev TurnedAt : tie.After-first-reaching Inv-loop μ-loop → Frac → List ℕ → List ℕ → ℕ → Type 0
-TurnedAt r =
-    let a = r .before .before .before .before .before .before .before .before .args in
-    let f = r .before .before .before .before .before .before .before .before .pre in
-    let l = r .before .before .before .before .before .before .before .loop in
-    let k = r .before .before .before .before .before .columns-at in
-    Turned (a .periods .now) (a .budgets .now) (a .holdings .now) (a .counts .now) (a .n) f (l .places) (l .best) (l .sums) (l .held) (l .inv) (k .result) (k .ensures)
-
-turned : (c : tie.Joined1 Inv-loop μ-loop) → TurnedAt (reaching-of c) (c .if1 .best) (c .if1 .sums) (c .if1 .held) (c .if1 .blocking)
+-- what the turn has come to behind the `if`: a lighter choice is recorded, or the best one stays
+turned : (c : tie.Joined1 Inv-loop μ-loop) → Turned (turn-at c) (c .if1 .best) (c .if1 .sums) (c .if1 .held) (c .if1 .blocking)
 turned c =
-    let r = reaching-of c in
-    let a = r .before .before .before .before .before .before .before .before .args in
-    let f = r .before .before .before .before .before .before .before .before .pre in
-    let l = r .before .before .before .before .before .before .before .loop in
-    let k = r .before .before .before .before .before .columns-at in
-    let e = r .first-reaching in
-    ⊎-elim (λ w. turned-as (TurnedAt r) (w .5) (w .6) (w .7) (w .8) (turn-records (a .periods .now) (a .budgets .now) (a .holdings .now) (a .counts .now) (a .n) f (l .places) (l .best) (l .sums) (l .held) (l .inv) (k .result) (k .ensures) (e .result) (e .ensures) (not-true _ (w .0 .taken)) (w .3 .result) (w .3 .ensures)))
-    (λ w. turned-as (TurnedAt r) (w .1) (w .2) (w .3) (w .4) (turn-stays (a .periods .now) (a .budgets .now) (a .holdings .now) (a .counts .now) (a .n) f (l .places) (l .best) (l .sums) (l .held) (l .inv) (k .result) (k .ensures) (e .result) (e .ensures) (not-false _ (w .0 .left))))
+    let t = turn-at c in
+    let e = c .before .before .first-reaching in
+    ⊎-elim
+    (λ w. turned-as (Turned t) (w .5) (w .6) (w .7) (w .8) (turn-records t (e .result) (e .ensures) (not-true _ (w .0 .taken)) (w .3 .result) (w .3 .ensures)))
+    (λ w. turned-as (Turned t) (w .1) (w .2) (w .3) (w .4) (turn-stays t (e .result) (e .ensures) (not-false _ (w .0 .left))))
     (c .if1 .came)
 
 mover-requires : tie.Need-mover-requires Inv-loop μ-loop
-mover-requires c κs =
-    let r = reaching-of (c .before .before) in
-    let a = r .before .before .before .before .before .before .before .before .args in
-    let f = r .before .before .before .before .before .before .before .before .pre in
-    let l = r .before .before .before .before .before .before .before .loop in
-    let k = r .before .before .before .before .before .columns-at in
-    (f .few, places-below (a .periods .now) (a .budgets .now) (a .holdings .now) (a .counts .now) (a .n) f (l .places) (l .inv .descending .placed))
+mover-requires c κs = let t = turn-at (c .before .before) in (t .fine .few, turn-places t)
 
 returns : tie.Need-returns Inv-loop μ-loop
-returns c =
-    let r = reaching-of (c .before .before .before .before .before) in
-    let a = r .before .before .before .before .before .before .before .before .args in
-    let f = r .before .before .before .before .before .before .before .before .pre in
-    let l = r .before .before .before .before .before .before .before .loop in
-    let k = r .before .before .before .before .before .columns-at in
-    let j = c .before .before .before .before .before .if1 in
-    let m = c .before .before .mover in
-    turn-ends (a .periods .now) (a .budgets .now) (a .holdings .now) (a .counts .now) (a .n) f (l .places) (l .best) (l .sums) (l .held) (l .inv) (k .result) (k .ensures) (j .best) (j .sums) (j .held) (j .blocking) (turned (c .before .before .before .before .before)) (m .result) (m .ensures) (c .before .if2 .taken)
+returns c = let s = joined-of (c .before .before) in turn-ends (turn-at s) (turned s) (c .before .before .mover .ensures) (c .before .if2 .taken)
 
 mul-places : tie.Need-mul-places Inv-loop μ-loop
-mul-places c = omega (arith, c .before .before .before .before .before .before .before .before .before .before .before .before .before .before .pre .few)
+mul-places c = omega (arith, turn-at (joined-of (c .before)) .fine .few)
 
 array-read-places : tie.Need-array-read-places Inv-loop μ-loop
-array-read-places c = omega (arith, c .before .before .before .before .before .before .before .before .before .before .before .before .before .before .pre .few)
+array-read-places c = omega (arith, turn-at (joined-of (c .before)) .fine .few)
 
 add-places : tie.Need-add-places Inv-loop μ-loop
-add-places c =
-    let r = reaching-of (c .before .before .before .before) in
-    let a = r .before .before .before .before .before .before .before .before .args in
-    let f = r .before .before .before .before .before .before .before .before .pre in
-    let l = r .before .before .before .before .before .before .before .loop in
-    let k = r .before .before .before .before .before .columns-at in
-    omega (arith, places-below (a .periods .now) (a .budgets .now) (a .holdings .now) (a .counts .now) (a .n) f (l .places) (l .inv .descending .placed) (c .before .mover .result) (c .if2 .left))
+add-places c = omega (arith, turn-places (turn-at (joined-of (c .before))) (c .before .mover .result) (c .if2 .left))
 
 array-write-places : tie.Need-array-write-places Inv-loop μ-loop
-array-write-places c = omega (arith, c .before .before .before .before .before .before .before .before .before .before .before .before .before .before .pre .few)
+array-write-places c = omega (arith, turn-at (joined-of (c .before)) .fine .few)
 
 loop-less : tie.Need-loop-less Inv-loop μ-loop
-loop-less c =
-    let r = reaching-of (c .before .before .before .before) in
-    let a = r .before .before .before .before .before .before .before .before .args in
-    let f = r .before .before .before .before .before .before .before .before .pre in
-    let l = r .before .before .before .before .before .before .before .loop in
-    let k = r .before .before .before .before .before .columns-at in
-    let j = c .before .before .before .before .if1 in
-    let m = c .before .mover in
-    turn-fewer (a .periods .now) (a .budgets .now) (a .holdings .now) (a .counts .now) (a .n) f (l .places) (l .best) (l .sums) (l .held) (l .inv) (k .result) (k .ensures) (j .best) (j .sums) (j .held) (j .blocking) (turned (c .before .before .before .before)) (m .result) (m .ensures) (c .if2 .left)
+loop-less c = turn-fewer (turn-at (joined-of (c .before))) (c .before .mover .result) (c .if2 .left)
 
 loop-again : tie.Need-loop-again Inv-loop μ-loop
-loop-again c =
-    let r = reaching-of (c .before .before .before .before) in
-    let a = r .before .before .before .before .before .before .before .before .args in
-    let f = r .before .before .before .before .before .before .before .before .pre in
-    let l = r .before .before .before .before .before .before .before .loop in
-    let k = r .before .before .before .before .before .columns-at in
-    let j = c .before .before .before .before .if1 in
-    let m = c .before .mover in
-    turn-moves (a .periods .now) (a .budgets .now) (a .holdings .now) (a .counts .now) (a .n) f (l .places) (l .best) (l .sums) (l .held) (l .inv) (k .result) (k .ensures) (j .best) (j .sums) (j .held) (j .blocking) (turned (c .before .before .before .before)) (m .result) (m .ensures) (c .if2 .left)
+loop-again c = let s = joined-of (c .before) in turn-moves (turn-at s) (turned s) (c .before .mover .ensures) (c .if2 .left)
 
 pub select-spec : {M : Type 1} → statement M
 select-spec =
