@@ -8,16 +8,17 @@ use Prim.Native.Nat.{ℕ, zero, suc, _≤_}
 use native.Mathlib.Omega.{arith}
 use mathlib.Core.Path.{_≡_, refl, sym, ap, _∙_}
 use mathlib.Core.Bool.{Bool, true, false, not, cond, false≢true}
-use mathlib.Core.List.{List, [], _∷_, map, Memᴰ·map}
+use mathlib.Core.List.{List, map, Memᴰ·map}
 use lib.Dec.{leb}
 use borrow.Author.Tests.{not-true, not-false}
 use lib.ListN.{length}
 use Rattle.least.specs.declared.Frac.{Frac}
 use Rattle.least.specs.Lists.{isEmpty, every, some, firstOf, nthOr}
 use Rattle.least.specs.Each.{Each}
-use Rattle.least.specs.Each.Each.{none, more}
 use Rattle.least.specs.Fraction.{_⊑_}
 use Rattle.least.proofs.Lists.{every-member, every-not, some-iff, some-none, FirstAt, first-at, first-none, nth-member}
+use Rattle.least.proofs.Each.{length-equal}
+use Rattle.least.proofs.Zip.{zip3-second, zip3-third}
 use Rattle.least.proofs.Fraction.{⊑-trans}
 use Rattle.refusal.specs.declared.Outcome.the-variants.{Done, Refused}
 use Rattle.refusal.specs.declared.Refusal.the-variants.{NoBudget, NoChoice, NoRoom}
@@ -39,17 +40,12 @@ use Rattle.answers.specs.Choice.{Chosen, PassingChoice, FromKept}
 use Rattle.answers.proofs.KeptRows.{none-kept, some-kept, keptRows-sorted, choices-kept, passing-under}
 
 pub shares-rows : {ps : List FilePart} {rs : List Row} (bs : List Frac) → Each FromKept ps rs → length bs ≡ length rs → map (λ s. s .row) (sharesOf ps rs bs) ≡ rs
-unfolding sharesOf shareOf
-shares-rows bs none e = refl
-shares-rows [] (more k ks) e = absurd (omega arith)
-shares-rows (b ∷ bs) (more {y = r} k ks) e = ap (λ (rs : List Row). r ∷ rs) (shares-rows bs ks (omega arith))
+unfolding shareOf
+shares-rows {ps} {rs} bs each e = zip3-second shareOf (λ s. s .row) (λ p r b. refl) ps rs bs (length-equal each) e
 
 pub shares-bounds : {ps : List FilePart} {rs : List Row} (bs : List Frac) → Each FromKept ps rs → length bs ≡ length rs → map (λ s. s .bound) (sharesOf ps rs bs) ≡ bs
-unfolding sharesOf shareOf
-shares-bounds [] none e = refl
-shares-bounds (b ∷ bs) none e = absurd (omega arith)
-shares-bounds [] (more k ks) e = absurd (omega arith)
-shares-bounds (b ∷ bs) (more k ks) e = ap (λ (bs : List Frac). b ∷ bs) (shares-bounds bs ks (omega arith))
+unfolding shareOf
+shares-bounds {ps} {rs} bs each e = zip3-third shareOf (λ s. s .bound) (λ p r b. refl) ps rs bs (length-equal each) e
 
 module _ (ps : List FilePart) where
   abbrev pub everyKept : Bool

@@ -4,16 +4,16 @@
 --   shareOf p r b  == what is printed of the part p with the row r and the row's bound b: each lock at the ceiling shown for r's X
 --   sharesOf ps rs bs == the same for each part, in file order
 -- Assumes nothing.
-use mathlib.Core.List.{List, [], _∷_, map}
+use mathlib.Core.List.{List, map}
 use Rattle.least.specs.declared.Frac.{Frac}
+use Rattle.least.specs.Lists.{zip3}
 use Rattle.candidates.specs.declared.Pair.{Pair}
-use Rattle.candidates.specs.Candidates.{keptList}
+use Rattle.candidates.specs.Candidates.{keptList, shownCeiling}
 use Rattle.load.specs.declared.Row.{Row}
 use Rattle.load.specs.Load.{row}
 use Rattle.plan_file.specs.Above.{FilePart, lockNames}
 use Rattle.plan_file.specs.Numbers.{locksIn, tasksIn}
-use Rattle.listing.specs.Listing.{Share}
-use Rattle.printing.specs.Printing.{ceilingsFrom}
+use Rattle.listing.specs.Listing.{Share, ceilingsUnder}
 
 unfoldable pub keptPairs : FilePart → List Pair
 keptPairs p = keptList (p .period) (tasksIn p) (locksIn p)
@@ -25,10 +25,7 @@ unfoldable pub keptRows : FilePart → List Row
 keptRows p = map (rowOf p) (keptPairs p)
 
 unfoldable pub shareOf : FilePart → Row → Frac → Share
-shareOf p r b = record { name = p .name; row = r; bound = b; ceilings = ceilingsFrom (tasksIn p) (r .holding) 1 (lockNames p) }
+shareOf p r b = record { name = p .name; row = r; bound = b; ceilings = ceilingsUnder (shownCeiling (tasksIn p) (r .holding)) 1 (lockNames p) }
 
-unfoldable pub sharesOf : List FilePart → List Row → List Frac → List Share
-sharesOf [] rs bs = []
-sharesOf (p ∷ ps) [] bs = []
-sharesOf (p ∷ ps) (r ∷ rs) [] = []
-sharesOf (p ∷ ps) (r ∷ rs) (b ∷ bs) = shareOf p r b ∷ sharesOf ps rs bs
+abbrev pub sharesOf : List FilePart → List Row → List Frac → List Share
+sharesOf ps rs bs = zip3 shareOf ps rs bs

@@ -18,8 +18,8 @@ use Rattle.supply.proofs.SupplyLaws.{reach, reach-iff, reach-mono, reach-over, 
 use Rattle.task_set.specs.declared.Task.{Task}
 use Rattle.task_set.specs.Blocking.{needOf}
 use Rattle.task_set.proofs.Demand.{Separated, demand-mono}
-use Rattle.budget.specs.Budget.{taskPasses}
-use Rattle.budget.specs.Code.{isMet, passingTime, NoneMet}
+use Rattle.budget.specs.Budget.{isMet, taskPasses}
+use Rattle.budget.specs.Code.{passingTime, NoneMet}
 
 abbrev pub ticks : ℕ → ℕ → ℕ → Task → List Task → ℕ → ℕ
 ticks P Q b task higher t = reach P Q (needOf b task higher t)

@@ -1,5 +1,6 @@
 -- The local test (document 001, equation 3) of a part with period P, the tasks `ts` and the locks 1 to m, under the setting σ.
---   taskPasses P Q blocking task higher == some t, 1 ≤ t ≤ D_i, has C_i + Σ_{k>i} ⌈t/T_k⌉×C_k + blocking ≤ supply(t)
+--   isMet P Q blocking task higher t == C_i + Σ_{k>i} ⌈t/T_k⌉×C_k + blocking ≤ supply(t)
+--   taskPasses P Q blocking task higher == some t, 1 ≤ t ≤ D_i, has that
 --   passes P ts m σ Q      == a budget Q passes: every task i does
 --   leastBudget P ts m σ   == the least Q, 1 ≤ Q ≤ P, that passes, if there is one
 -- Assumes nothing.
@@ -14,8 +15,11 @@ use Rattle.supply.specs.Supply.{supplyOf}
 use Rattle.task_set.specs.declared.Task.{Task}
 use Rattle.task_set.specs.Blocking.{Setting, blockingOf, needOf}
 
+abbrev pub isMet : ℕ → ℕ → ℕ → Task → List Task → ℕ → Bool
+isMet P Q blocking task higher t = leb (needOf blocking task higher t) (supplyOf P Q t)
+
 unfoldable pub taskPasses : ℕ → ℕ → ℕ → Task → List Task → Bool
-taskPasses P Q blocking task higher = anyUpTo (λ t. leb (needOf blocking task higher t) (supplyOf P Q t)) (task .deadline)
+taskPasses P Q blocking task higher = anyUpTo (isMet P Q blocking task higher) (task .deadline)
 
 unfoldable pub passes : ℕ → List Task → ℕ → Setting → ℕ → Bool
 passes P ts m σ Q = everyAlong (λ lower task higher. taskPasses P Q (blockingOf m σ lower) task higher) ts

@@ -6,22 +6,16 @@
 -- Assumes nothing.
 use Prim.Native.Nat.{ℕ, suc, _-_, _≤_, _<_}
 use mathlib.Core.Path.{_≡_}
-use mathlib.Core.Bool.{Bool, false}
+use mathlib.Core.Bool.{false}
 use mathlib.Core.List.{List, []}
-use lib.Dec.{leb}
 use lib.ListN.{getD}
 use Rattle.least.specs.declared.Least.{Least}
 use Rattle.least.specs.Search.{leastFrom, leastUpTo}
-use Rattle.supply.specs.Supply.{supplyOf}
 use Rattle.task_set.specs.declared.Task.{Task}
-use Rattle.task_set.specs.Blocking.{needOf}
-use Rattle.budget.specs.Budget.{taskPasses}
+use Rattle.budget.specs.Budget.{isMet, taskPasses}
 
 abbrev pub dueTask : List ℕ → ℕ → ℕ → Task
 dueTask costs i D = record { separation = 0; cost = getD costs i 0; deadline = D; uses = [] }
-
-abbrev pub isMet : ℕ → ℕ → ℕ → Task → List Task → ℕ → Bool
-isMet P Q b task higher t = leb (needOf b task higher t) (supplyOf P Q t)
 
 unfoldable pub passingTime : ℕ → ℕ → ℕ → Task → List Task → Least
 passingTime P Q b task higher = leastUpTo (isMet P Q b task higher) (task .deadline)

@@ -2,7 +2,7 @@
 -- Assumes nothing.
 use Rattle.least.specs.Round.{ceilDiv}
 use Rattle.least.specs.Search.{leastFrom, anyFrom, numberOr0}
-use Rattle.least.specs.Lists.{sum, greatest, smallest, countFrom, range, isEmpty, nthOr, every, some, those, joined, numbersFrom, firstFrom, lastOr, onLast, pad, everyBehind, behind}
+use Rattle.least.specs.Lists.{sum, greatest, smallest, countFrom, range, isEmpty, nthOr, every, some, those, joined, numbersFrom, firstFrom, lastOr, onLast, pad, everyBehind, behind, zip3}
 use Rattle.least.specs.Fraction.{lesser, greater, leastOver, greatestOf}
 use Rattle.text.specs.Bytes.{bytes, same, among, mention, distinctAfter, intoLine, linesOf, intoField, fieldsOf, lineOf}
 use Rattle.text.specs.Decimal.{isDigit, valueAfter, digitsWithin, digitsOf}
@@ -23,13 +23,12 @@ use Rattle.records.specs.Records.{recordOf}
 use Rattle.plan_file.specs.Above.{lockMentions, lockNames, partsAfter}
 use Rattle.plan_file.specs.Reading.{isPart, isEnd, allowedHere, partQuestions, taskQuestions, lockQuestions, recordQuestions, questionsAt, readLines, readFile}
 use Rattle.plan_file.specs.Numbers.{heldUnder, taskIn, locksIn, tasksIn}
-use Rattle.listing.specs.Listing.{ceilingLine, shareLine, shareLines, loadLine, loadShare, listingOf, refusedLine}
-use Rattle.printing.specs.Printing.{ceilingsFrom}
-use Rattle.answers.specs.Parts.{keptPairs, keptRows, shareOf, sharesOf}
+use Rattle.listing.specs.Listing.{ceilingsUnder, ceilingLine, shareLine, shareLines, loadLine, loadShare, listingOf, refusedLine}
+use Rattle.answers.specs.Parts.{keptPairs, keptRows, shareOf}
 use Rattle.answers.specs.Answers.{planRows, planText, planQuestions, planParts, planOf, candidatesOf, nameOf, supplyAnswer, planned, bufferAfter, candidateList, nameBytes, supplied}
 use Rattle.examples.specs.Files.{fileA, listingA, cardAt, listingC, listingD, fileF, onePart, listingI}
 use Rattle.examples.specs.Table.{partsIn, isOn}
 
 unfoldable pub opened : Unit {0}
-unfolding ceilDiv leastFrom anyFrom numberOr0 sum greatest smallest countFrom range isEmpty nthOr every some those joined numbersFrom firstFrom lastOr onLast pad everyBehind behind lesser greater leastOver greatestOf bytes same among mention distinctAfter intoLine linesOf intoField fieldsOf lineOf isDigit valueAfter digitsWithin digitsOf firstNo outcomeOf whenAnswered whenDone roundOf supplyAt supplyOf heldFor demandIn lowestCeiling greatestHeld smallestDeadline blockedBy blockingOf needOf held holdingOf inRange exists permitted holdingTimeOf taskPasses passes leastBudget settings candidateOf candidatesIn isKept insertByX inFallingX keptAmong keptList keptAnswer shownCeiling demandOf loadAt rowPasses passesSystem ratio boundOf boundsOf loadOf loadRow rowInRange weighQuestions weighed weighOf choices lighter leastLoaded choiceQuestions isAllowed lineIsGood isNameByte isName leadingZero isNumber recordOf lockMentions lockNames partsAfter isPart isEnd allowedHere partQuestions taskQuestions lockQuestions recordQuestions questionsAt readLines readFile heldUnder taskIn locksIn tasksIn ceilingLine shareLine shareLines loadLine loadShare listingOf refusedLine keptPairs keptRows ceilingsFrom shareOf sharesOf planRows planText planQuestions planParts planOf candidatesOf nameOf supplyAnswer planned bufferAfter candidateList nameBytes supplied fileA listingA cardAt listingC listingD fileF onePart listingI partsIn isOn
+unfolding ceilDiv leastFrom anyFrom numberOr0 sum greatest smallest countFrom range isEmpty nthOr every some those joined numbersFrom firstFrom lastOr onLast pad everyBehind behind zip3 lesser greater leastOver greatestOf bytes same among mention distinctAfter intoLine linesOf intoField fieldsOf lineOf isDigit valueAfter digitsWithin digitsOf firstNo outcomeOf whenAnswered whenDone roundOf supplyAt supplyOf heldFor demandIn lowestCeiling greatestHeld smallestDeadline blockedBy blockingOf needOf held holdingOf inRange exists permitted holdingTimeOf taskPasses passes leastBudget settings candidateOf candidatesIn isKept insertByX inFallingX keptAmong keptList keptAnswer shownCeiling demandOf loadAt rowPasses passesSystem ratio boundOf boundsOf loadOf loadRow rowInRange weighQuestions weighed weighOf choices lighter leastLoaded choiceQuestions isAllowed lineIsGood isNameByte isName leadingZero isNumber recordOf lockMentions lockNames partsAfter isPart isEnd allowedHere partQuestions taskQuestions lockQuestions recordQuestions questionsAt readLines readFile heldUnder taskIn locksIn tasksIn ceilingsUnder ceilingLine shareLine shareLines loadLine loadShare listingOf refusedLine keptPairs keptRows shareOf planRows planText planQuestions planParts planOf candidatesOf nameOf supplyAnswer planned bufferAfter candidateList nameBytes supplied fileA listingA cardAt listingC listingD fileF onePart listingI partsIn isOn
 opened = tt

@@ -5,6 +5,7 @@ pub mod Lists
 pub mod Greatest
 pub mod Along
 pub mod Each
+pub mod Zip
 pub mod Those
 pub mod Pairwise
 pub mod Sums

@@ -13,6 +13,7 @@
 --   numbersOf test xs == the numbers, from 1, of the elements that pass the test
 --   along f xs       == at each place of the list, f of what stands before it (nearest first), of it and of what stands behind it
 --   everyAlong f xs  == the test f passes at each place of the list
+--   zip3 f xs ys zs  == f of the elements at each place of three lists, as far as all of them go
 --   lastOr d xs      == the last element of a list, d where there is none
 --   onLast f xs      == the list with f of its last element in its place
 --   pad k z xs       == the first k elements of a list, z in the places that are left
@@ -115,3 +116,10 @@ module _ {A B : Type 0} where
 
   abbrev pub along : (List A → A → List A → B) → List A → List B
   along f xs = behind f [] xs
+
+module _ {A B C D : Type 0} where
+  unfoldable pub zip3 : (A → B → C → D) → List A → List B → List C → List D
+  zip3 f [] ys zs = []
+  zip3 f (x ∷ xs) [] zs = []
+  zip3 f (x ∷ xs) (y ∷ ys) [] = []
+  zip3 f (x ∷ xs) (y ∷ ys) (z ∷ zs) = f x y z ∷ zip3 f xs ys zs

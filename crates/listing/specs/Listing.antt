@@ -1,12 +1,13 @@
 -- The listing of a plan, byte for byte.
 --   Ceiling    == a lock's name and its ceiling, a task number
 --   Share      == what is printed of a part: its name, its row, the row's bound, and its locks' ceilings in order of first mention
+--   ceilingsUnder σ l names == the locks of these names, numbered from l on, each at its ceiling under the setting σ
 --   shareLines == `share` name P Q X L t, then a `ceiling` line for each lock
 --   loadLine   == `load` name L t of a share
 --   listingOf  == the `load` line of the first share that reaches the load, then every share in file order
 --   refusedLine == `refused` number place
 -- Assumes nothing.
-use Prim.Native.Nat.{ℕ}
+use Prim.Native.Nat.{ℕ, suc}
 use mathlib.Core.List.{List, [], _∷_, _++_, map}
 use lib.ListN.{take}
 use Rattle.least.specs.declared.Frac.{Frac}
@@ -14,6 +15,7 @@ use Rattle.least.specs.Lists.{those, joined}
 use Rattle.least.specs.Fraction.{atMost, greatestOf}
 use Rattle.text.specs.Bytes.{bytes, lineOf}
 use Rattle.text.specs.Decimal.{digitsOf}
+use Rattle.task_set.specs.Blocking.{Setting}
 use Rattle.load.specs.declared.Row.{Row}
 
 pub record Ceiling : Type 0 where
@@ -25,6 +27,10 @@ pub record Share : Type 0 where
   pub row : Row
   pub bound : Frac
   pub ceilings : List Ceiling
+
+unfoldable pub ceilingsUnder : Setting → ℕ → List (List ℕ) → List Ceiling
+ceilingsUnder σ l [] = []
+ceilingsUnder σ l (name ∷ names) = record { lock = name; number = σ l } ∷ ceilingsUnder σ (suc l) names
 
 unfoldable pub ceilingLine : Ceiling → List ℕ
 ceilingLine c = lineOf (bytes "ceiling" ∷ c .lock ∷ digitsOf (c .number) ∷ [])

@@ -9,7 +9,7 @@
 -- Assumes nothing.
 use Prim.Native.Nat.{ℕ, suc, _+_, _*_, _^_, _≤_, _<_}
 use mathlib.Core.Path.{_≡_}
-use mathlib.Core.List.{List, []}
+use mathlib.Core.List.{List}
 use lib.ListN.{length, getD}
 use Rattle.task_set.specs.declared.Part.{Part}
 use Rattle.task_set.specs.Tasks.{tasksOf}
@@ -17,17 +17,9 @@ use Rattle.task_set.specs.Fine.{FinePart}
 use Rattle.candidates.specs.declared.Pair.{Pair}
 use Rattle.candidates.specs.declared.Kept.{Kept}
 use Rattle.candidates.specs.Candidates.{pair, keptList}
-use Rattle.reader.specs.declared.PartRead.{PartRead}
 use Rattle.reader.specs.declared.PlanFile.{PlanFile}
+use Rattle.reader.specs.Reader.{blankPart}
 use Rattle.offers.specs.declared.Offers.{Offers}
-
--- what is read past the end of an array of parts, which nobody does
-abbrev pub blankPart : PartRead
-blankPart = record {
-  name = record { start = 0; len = 0 };
-  part = record { period = 0; tasks = []; count = 0; locks = 0 };
-  locks = record { count = 0; span = [] };
-}
 
 abbrev pub partIn : PlanFile → ℕ → Part
 partIn f k = getD (f .parts) k blankPart .part

@@ -1,41 +1,34 @@
 -- The top theorem: `planOf` meets demand 3, whatever readable file it is asked for and whatever room is lent.
 -- Assumes nothing.
-use Prim.Native.Nat.{ℕ, suc, _≤_}
+use Prim.Native.Nat.{_≤_}
 use native.Mathlib.Omega.{arith}
 use mathlib.Core.Path.{_≡_, refl, sym, ap, _∙_}
 use mathlib.Core.Bool.{Bool, true, false}
 use mathlib.Core.List.{List, [], _∷_, map}
 use lib.ListN.{length, length-map}
 use Rattle.least.specs.declared.Frac.{Frac}
-use Rattle.least.specs.Lists.{isEmpty, some, firstOf, nthOr}
+use Rattle.least.specs.Lists.{isEmpty, some, firstOf, nthOr, zip3}
 use Rattle.least.specs.Each.{Each}
 use Rattle.least.specs.Each.Each.{none, more}
 use Rattle.least.specs.Fraction.{_⊑_}
 use Rattle.refusal.specs.declared.Refusal.the-variants.{NoChoice}
-use Rattle.task_set.specs.declared.Task.{Task}
 use Rattle.candidates.specs.Candidates.{shownCeiling}
 use Rattle.load.specs.declared.Row.{Row}
 use Rattle.load.specs.Load.{boundsOf, loadOf, passesSystem}
 use Rattle.load.proofs.Load.{boundsOf-length}
-use Rattle.plan_file.specs.Above.{FilePart, noPart, lockNames}
+use Rattle.plan_file.specs.Above.{FilePart, noPart}
 use Rattle.plan_file.specs.Numbers.{tasksIn}
-use Rattle.listing.specs.Listing.{Ceiling, Share}
-use Rattle.printing.specs.Printing.{ceilingsFrom}
+use Rattle.listing.specs.Listing.{Share}
 use Rattle.answers.specs.Parts.{keptRows, shareOf, sharesOf}
 use Rattle.answers.specs.Answers.{planRows, planText, planOf}
 use Rattle.answers.specs.Choice.{rowUnder, FromKept}
 use Rattle.answers.proofs.KeptRows.{each-of-map, some-kept, shown-passes, shown-row}
 use Rattle.answers.proofs.PlanRows.{shares-rows, shares-bounds, everyKept, keptChoices, leastRows, text, empty-at, each-chosen, first-empty, none-chosen, no-passing-choice, leastRows-kept, leastRows-passes, leastRows-least, leastRows-greatest, refused-10, refused-11, planned-or-14, plan-parts}
-use Rattle.planner.specs.Demand3.{ceilingsUnder, Stands, Printed, NoBudgetAt, Planning, Demand3}
+use Rattle.planner.specs.Demand3.{Stands, Printed, NoBudgetAt, Planning, Demand3}
 use Rattle.planner.specs.Demand3.NoneToPlan.{ten, eleven}
 use Rattle.planner.specs.Demand3.Planning.{refusing, planning}
 
 -- what is printed of kept rows
-ceilings-shown : (ts : List Task) (x l : ℕ) (names : List (List ℕ)) → ceilingsFrom ts x l names ≡ ceilingsUnder (shownCeiling ts x) l names
-unfolding ceilingsFrom
-ceilings-shown ts x l [] = refl
-ceilings-shown ts x l (name ∷ names) = ap (λ (cs : List Ceiling). record { lock = name; number = shownCeiling ts x l } ∷ cs) (ceilings-shown ts x (suc l) names)
-
 share-stands : (p : FilePart) (r : Row) (b : Frac) → FromKept p r → Stands p (shareOf p r b)
 unfolding shareOf
 share-stands p r b k = record {
@@ -44,11 +37,11 @@ share-stands p r b k = record {
   local = shown-passes p r k;
   name = refl;
   is = shown-row p r k;
-  ceilings = ceilings-shown (tasksIn p) (r .holding) 1 (lockNames p);
+  ceilings = refl;
 }
 
 pub shares-stand : {ps : List FilePart} {rs : List Row} (bs : List Frac) → Each FromKept ps rs → length bs ≡ length rs → Each Stands ps (sharesOf ps rs bs)
-unfolding sharesOf
+unfolding zip3
 shares-stand bs none e = none
 shares-stand [] (more k ks) e = absurd (omega arith)
 shares-stand (b ∷ bs) (more {x = p} {y = r} k ks) e = more (share-stands p r b k) (shares-stand bs ks (omega arith))

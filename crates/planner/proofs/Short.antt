@@ -23,13 +23,14 @@ use Rattle.load.proofs.Load.{boundsOf-small}
 use Rattle.plan_file.specs.Above.{FilePart, lockNames}
 use Rattle.plan_file.specs.Numbers.{locksIn, taskIn, tasksIn}
 use Rattle.plan_file.proofs.Fine.{FineFilePart, AllFine}
-use Rattle.listing.specs.Listing.{Ceiling, Share}
+use Rattle.listing.specs.Listing.{Ceiling, Share, ceilingsUnder}
 use Rattle.listing.proofs.Lengths.{ShortCeiling, ShortShare, listing-most}
 use Rattle.planning.proofs.Weighed.{deadline-most}
-use Rattle.planner.specs.Demand3.{ceilingsUnder, Stands, Printed}
+use Rattle.planner.specs.Demand3.{Stands, Printed}
 
 -- the ceilings under a setting, of the locks of these names
 under-length : (σ : Setting) (l : ℕ) (names : List (List ℕ)) → length (ceilingsUnder σ l names) ≡ length names
+unfolding ceilingsUnder
 under-length σ l [] = refl
 under-length σ l (name ∷ names) = ap suc (under-length σ (suc l) names)
 
@@ -41,6 +42,7 @@ record LockAt (σ : Setting) (l : ℕ) (names : List (List ℕ)) (c : Ceiling) :
   is : c .number ≡ σ at
 
 under-member : (σ : Setting) (l : ℕ) (names : List (List ℕ)) (c : Ceiling) → List·Memᴰ c (ceilingsUnder σ l names) → LockAt σ l names c
+unfolding ceilingsUnder
 under-member σ l (name ∷ names) c (List·Memᴰ·head e) = record {
   named = List·Memᴰ·head (ap (λ (x : Ceiling). x .lock) e);
   at = l;

@@ -4,10 +4,10 @@
 --   NoneToPlan ps r   == no choice passes, and r is the refusal that says so: 10 at the first part without a budget, else 11
 --   Demand3 plan      == demand 3 of an operation `plan` that answers a file and a room
 -- Assumes nothing.
-use Prim.Native.Nat.{ℕ, suc, _≤_, _<_}
+use Prim.Native.Nat.{ℕ, _≤_, _<_}
 use mathlib.Core.Path.{_≡_}
 use mathlib.Core.Bool.{true, cond}
-use mathlib.Core.List.{List, [], _∷_, map}
+use mathlib.Core.List.{List, map}
 use lib.Dec.{leb}
 use lib.ListN.{length}
 use Rattle.least.specs.Each.{Each}
@@ -22,13 +22,8 @@ use Rattle.load.specs.declared.Row.{Row}
 use Rattle.load.specs.Load.{boundsOf, loadOf, passesSystem}
 use Rattle.plan_file.specs.Above.{FilePart, noPart, lockNames}
 use Rattle.plan_file.specs.Reading.{readFile}
-use Rattle.listing.specs.Listing.{Ceiling, Share, listingOf}
+use Rattle.listing.specs.Listing.{Share, ceilingsUnder, listingOf}
 use Rattle.answers.specs.Choice.{Budgeted, rowUnder, Chosen, PassingChoice, FromKept}
-
--- a lock's name and its ceiling under σ, for the locks of the given names, the first of which has the number l
-abbrev pub ceilingsUnder : Setting → ℕ → List (List ℕ) → List Ceiling
-ceilingsUnder σ l [] = []
-ceilingsUnder σ l (name ∷ names) = record { lock = name; number = σ l } ∷ ceilingsUnder σ (suc l) names
 
 pub record Stands (p : FilePart) (s : Share) : Type 0 where
   pub setting : Setting

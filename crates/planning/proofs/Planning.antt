@@ -3,30 +3,32 @@
 -- Assumes nothing.
 use Prim.Native.Nat.{ℕ, zero, suc, _+_, _≤_, _<_}
 use native.Mathlib.Omega.{arith}
-use mathlib.Core.Path.{_≡_, refl, sym, ap, ap₂, _∙_}
-use mathlib.Core.List.{List, [], _∷_, _++_, map, append-nil}
+use mathlib.Core.Path.{_≡_, sym, ap, ap₂, _∙_}
+use mathlib.Core.List.{List, _++_, map, append-nil}
 use lib.ListN.{length, drop, getD, length-map, List·getD-map}
 use lib.Seq.{ext-getD}
 use Rattle.least.specs.declared.Frac.{Frac}
 use Rattle.least.specs.Lists.{firstOf, joined}
 use Rattle.least.specs.Fraction.{atMost, greatestOf}
 use Rattle.least.proofs.Lists.{nth-get}
+use Rattle.least.proofs.Zip.{zip3-same}
 use Rattle.least.proofs.Columns.{column-length, column-get}
 use Rattle.candidates.specs.declared.Pair.{Pair}
+use Rattle.candidates.specs.Candidates.{shownCeiling}
 use Rattle.load.specs.declared.Row.{Row}
 use Rattle.load.specs.Load.{row}
 use Rattle.writer.specs.Written.{written, Written}
 use Rattle.plan_file.specs.Above.{FilePart, noPart}
 use Rattle.reader.specs.declared.PartRead.{PartRead}
 use Rattle.reader.specs.declared.PlanFile.{PlanFile}
-use Rattle.reader.specs.Reader.{ReadPart, noPartRead, numbersOf, partOf, ReadIs}
+use Rattle.reader.specs.Reader.{ReadPart, blankPart, numbersOf, partOf, ReadIs}
 use Rattle.reader.proofs.Handed.{Handed}
-use Rattle.reader.proofs.Fine.{handed-fine}
-use Rattle.offers.specs.Gathered.{blankPart, partIn, FineParts}
+use Rattle.reader.proofs.Fine.{counts-at, handed-fine}
+use Rattle.offers.specs.Gathered.{partIn, FineParts}
 use Rattle.offers.specs.Least.{partRows, rowsIn}
-use Rattle.listing.specs.Listing.{Share, shareLines, loadLine, listingOf}
+use Rattle.listing.specs.Listing.{Share, ceilingsUnder, shareLines, loadLine, listingOf}
 use Rattle.listing.proofs.Shares.{load-share}
-use Rattle.printing.specs.Printing.{ceilingsFrom, shareRead, sharesRead, noShare, listingAt, FineFile}
+use Rattle.printing.specs.Printing.{shareRead, sharesRead, noShare, listingAt, FineFile}
 use Rattle.answers.specs.Parts.{keptRows, shareOf, sharesOf}
 use Rattle.answers.proofs.KeptRows.{kept-same}
 
@@ -43,8 +45,8 @@ module _ (s : List ℕ) (f : PlanFile) (is : ReadIs s f) (h : Handed s f) where
   file-fine = record {
     few = is .few;
     room = is .room;
-    parts = λ k l. handed-fine s f is h k noPartRead l .fine;
-    counts = is .counts;
+    parts = λ k l. handed-fine s f is h k blankPart l .fine;
+    counts = λ k l. counts-at s f is k blankPart l;
   }
 
   part-rows : (k : ℕ) → k < f .count → keptRows (getD (h .parts) k noPart) ≡ partRows f k
@@ -66,26 +68,10 @@ module _ (s : List ℕ) (f : PlanFile) (is : ReadIs s f) (h : Handed s f) where
 share-same : (s : List ℕ) (p : PartRead) (q : FilePart) (r : Row) (b : Frac) → partOf s p ≡ numbersOf q → shareRead s p r b ≡ shareOf q r b
 unfolding shareRead shareOf partOf numbersOf
 share-same s p q r b e =
-    ap (λ (x : ReadPart). record { name = x .name; row = r; bound = b; ceilings = ceilingsFrom (x .tasks) (r .holding) 1 (x .locks) }) e
-
-first-same : {A : Type 0} {x y : A} {xs ys : List A} → x ∷ xs ≡ y ∷ ys → x ≡ y
-first-same e = cc
-
-rest-same : {A : Type 0} {x y : A} {xs ys : List A} → x ∷ xs ≡ y ∷ ys → xs ≡ ys
-rest-same e = cc
-
-never-empty : {A : Type 0} {x : A} {xs : List A} → _≡_ {A = List A} [] (x ∷ xs) → ⊥
-never-empty e = let z : _≡_ {A = ℕ} 0 1 = cc in omega arith
+    ap (λ (x : ReadPart). record { name = x .name; row = r; bound = b; ceilings = ceilingsUnder (shownCeiling (x .tasks) (r .holding)) 1 (x .locks) }) e
 
 pub shares-same : (s : List ℕ) (ps : List PartRead) (qs : List FilePart) (rs : List Row) (bs : List Frac) → map (partOf s) ps ≡ map numbersOf qs → sharesRead s ps rs bs ≡ sharesOf qs rs bs
-unfolding sharesRead sharesOf
-shares-same s [] [] rs bs e = refl
-shares-same s [] (q ∷ qs) rs bs e = absurd (never-empty e)
-shares-same s (p ∷ ps) [] rs bs e = absurd (never-empty (sym e))
-shares-same s (p ∷ ps) (q ∷ qs) [] bs e = refl
-shares-same s (p ∷ ps) (q ∷ qs) (r ∷ rs) [] e = refl
-shares-same s (p ∷ ps) (q ∷ qs) (r ∷ rs) (b ∷ bs) e =
-    ap₂ (λ (x : Share) (xs : List Share). x ∷ xs) (share-same s p q r b (first-same e)) (shares-same s ps qs rs bs (rest-same e))
+shares-same s ps qs rs bs e = zip3-same (shareRead s) shareOf (partOf s) numbersOf (λ p q h r b. share-same s p q r b h) ps qs rs bs e
 
 -- the load line is that of the first share that reaches the load
 pub listing-same : (shares : List Share) (k : ℕ) → 1 ≤ k → firstOf (atMost (greatestOf (map (λ x. x .bound) shares))) (map (λ x. x .bound) shares) ≡ k → listingAt k shares ≡ listingOf shares

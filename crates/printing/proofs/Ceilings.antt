@@ -8,7 +8,6 @@ use mathlib.Core.List.{List, [], _∷_}
 use lib.ListN.{length, take, getD, length-map}
 use lib.Seq.{length-take-le}
 use Rattle.least.specs.declared.Frac.{Frac}
-use Rattle.task_set.specs.declared.Task.{Task}
 use Rattle.task_set.specs.Tasks.{tasksOf}
 use Rattle.candidates.specs.Candidates.{shownCeiling}
 use Rattle.load.specs.declared.Row.{Row}
@@ -17,21 +16,20 @@ use Rattle.plan_file.specs.declared.Names.{Names}
 use Rattle.plan_file.specs.Entries.{FineNames, namesOf}
 use Rattle.reader.specs.declared.PartRead.{PartRead}
 use Rattle.reader.specs.Reader.{FineCounts}
-use Rattle.listing.specs.Listing.{Ceiling}
+use Rattle.task_set.specs.Blocking.{Setting}
+use Rattle.listing.specs.Listing.{Ceiling, ceilingsUnder}
 use Rattle.listing.specs.Shares.{ceilingsOf, shareFrom, FineLocks}
 use Rattle.shown.specs.Shown.{ShownAre}
-use Rattle.printing.specs.Printing.{ceilingsFrom, shareRead}
+use Rattle.printing.specs.Printing.{shareRead}
 
 -- the locks from the number l on
-ceilings-same : (ts : List Task) (x l : ℕ) (names : List (List ℕ)) (cs : List ℕ) → length names ≤ length cs → ((j : ℕ) → j < length names → getD cs j 0 ≡ shownCeiling ts x (l + j))
-    → ceilingsOf names cs ≡ ceilingsFrom ts x l names
-unfolding ceilingsOf ceilingsFrom
-ceilings-same ts x l [] cs h shown = refl
-ceilings-same ts x l (name ∷ names) [] h shown = absurd (omega arith)
-ceilings-same ts x l (name ∷ names) (c ∷ cs) h shown =
-    let first : c ≡ shownCeiling ts x l = shown 0 (omega arith) ∙ ap (shownCeiling ts x) (add-zero l) in
-    let later : ceilingsOf names cs ≡ ceilingsFrom ts x (suc l) names =
-    ceilings-same ts x (suc l) names cs (omega arith) (λ j k. let e : l + suc j ≡ suc l + j = omega arith in shown (suc j) (omega arith) ∙ ap (shownCeiling ts x) e) in
+ceilings-same : (σ : Setting) (l : ℕ) (names : List (List ℕ)) (cs : List ℕ) → length names ≤ length cs → ((j : ℕ) → j < length names → getD cs j 0 ≡ σ (l + j)) → ceilingsOf names cs ≡ ceilingsUnder σ l names
+unfolding ceilingsOf ceilingsUnder
+ceilings-same σ l [] cs h are = refl
+ceilings-same σ l (name ∷ names) [] h are = absurd (omega arith)
+ceilings-same σ l (name ∷ names) (c ∷ cs) h are =
+    let first : c ≡ σ l = are 0 (omega arith) ∙ ap σ (add-zero l) in
+    let later : ceilingsOf names cs ≡ ceilingsUnder σ (suc l) names = ceilings-same σ (suc l) names cs (omega arith) (λ j k. let e : l + suc j ≡ suc l + j = omega arith in are (suc j) (omega arith) ∙ ap σ e) in
     ap₂ (λ (n : ℕ) (rest : List Ceiling). record { lock = name; number = n } ∷ rest) first later
 
 names-length : (s : List ℕ) (locks : Names) → FineNames locks → length (namesOf s locks) ≡ locks .count
@@ -48,4 +46,4 @@ share-read s p r b cs f locks shown =
     let numbers : (j : ℕ) → j < length names → getD cs j 0 ≡ shownCeiling (tasksOf (p .part)) (r .holding) (1 + j) =
     λ j h. let e : suc j ≡ 1 + j = omega arith in shown j (omega (arith, count)) ∙ ap (shownCeiling (tasksOf (p .part)) (r .holding)) e in
     ap (λ (ceilings : List Ceiling). record { name = bytesOf s (p .name); row = r; bound = b; ceilings = ceilings })
-    (ceilings-same (tasksOf (p .part)) (r .holding) 1 names cs (omega (arith, count, f .locks-are, locks .room)) numbers)
+    (ceilings-same (shownCeiling (tasksOf (p .part)) (r .holding)) 1 names cs (omega (arith, count, f .locks-are, locks .room)) numbers)

@@ -3,24 +3,22 @@
 use Prim.Native.Nat.{ℕ, zero, suc, _+_, _-_, _≤_, _<_}
 use native.Mathlib.Numerals.{add-one}
 use native.Mathlib.Omega.{arith}
-use mathlib.Core.Path.{_≡_, refl, sym, ap, ap₂, subst, _∙_}
+use mathlib.Core.Path.{_≡_, refl, sym, ap, ap₂, _∙_}
 use mathlib.Core.List.{List, [], _∷_, _++_, map}
 use lib.ListN.{length, take, drop, getD, length-append, drop-of-length-le}
 use lib.Seq.{drop-cons, getD-take, length-take-le}
 use Rattle.least.specs.declared.Frac.{Frac}
 use Rattle.least.specs.Lists.{nthOr, joined}
 use Rattle.least.proofs.Lists.{nth-get}
-use Rattle.least.proofs.Members.{getD-any}
-use Rattle.task_set.specs.Fine.{FinePart}
+use Rattle.least.proofs.Zip.{zip3-cons, zip3-none, zip3-get}
 use Rattle.load.specs.declared.Row.{Row}
 use Rattle.load.specs.declared.Rows.{Rows}
 use Rattle.load.specs.Weigh.{rowsOf}
 use Rattle.load.specs.Code.{noFrac, noRow}
 use Rattle.scan.specs.Scan.{bytesOf}
-use Rattle.plan_file.specs.Entries.{noSpan}
 use Rattle.reader.specs.declared.PartRead.{PartRead}
 use Rattle.reader.specs.declared.PlanFile.{PlanFile}
-use Rattle.reader.specs.Reader.{noPartRead, FineCounts}
+use Rattle.reader.specs.Reader.{blankPart}
 use Rattle.listing.specs.Listing.{Share, shareLines, loadLine}
 use Rattle.listing.specs.Shares.{named, bare}
 use Rattle.printing.specs.Printing.{shareRead, sharesRead, noShare, listingAt, sharesIn, FineFile, ToPrint}
@@ -28,15 +26,6 @@ use Rattle.printing.specs.Printing.{shareRead, sharesRead, noShare, list
 -- the lines of shares
 abbrev pub linesOf : List Share → List ℕ
 linesOf shares = joined (map shareLines shares)
-
-shares-cons : (s : List ℕ) (p : PartRead) (r : Row) (b : Frac) (ps : List PartRead) (rs : List Row) (bs : List Frac)
-    → sharesRead s (p ∷ ps) (r ∷ rs) (b ∷ bs) ≡ shareRead s p r b ∷ sharesRead s ps rs bs
-unfolding sharesRead
-shares-cons s p r b ps rs bs = refl
-
-shares-none : (s : List ℕ) (rs : List Row) (bs : List Frac) → sharesRead s [] rs bs ≡ []
-unfolding sharesRead
-shares-none s rs bs = refl
 
 lines-cons : (x : Share) (xs : List Share) → linesOf (x ∷ xs) ≡ shareLines x ++ linesOf xs
 unfolding joined
@@ -46,24 +35,10 @@ lines-none : linesOf [] ≡ []
 unfolding joined
 lines-none = refl
 
--- the share at a place
-share-at : (s : List ℕ) (ps : List PartRead) (rs : List Row) (bs : List Frac) (j : ℕ) (d : PartRead) (e : Row) (z : Frac) → j < length ps → j < length rs → j < length bs
-    → getD (sharesRead s ps rs bs) j noShare ≡ shareRead s (getD ps j d) (getD rs j e) (getD bs j z)
-unfolding sharesRead
-share-at s [] rs bs j d e z h i k = absurd (omega arith)
-share-at s (p ∷ ps) [] bs j d e z h i k = absurd (omega arith)
-share-at s (p ∷ ps) (r ∷ rs) [] j d e z h i k = absurd (omega arith)
-share-at s (p ∷ ps) (r ∷ rs) (b ∷ bs) zero d e z h i k = refl
-share-at s (p ∷ ps) (r ∷ rs) (b ∷ bs) (suc j) d e z h i k = share-at s ps rs bs j d e z (omega arith) (omega arith) (omega arith)
-
 -- a load line shows the name and the bound only
 load-named : (s : List ℕ) (p : PartRead) (r : Row) (b : Frac) → loadLine (shareRead s p r b) ≡ loadLine (named (bytesOf s (p .name)) b)
 unfolding loadLine shareRead named bare
 load-named s p r b = refl
-
--- what is read past the end of an array of parts, which nobody does
-abbrev blankPart : PartRead
-blankPart = record { name = noSpan; part = record { period = 0; tasks = []; count = 0; locks = 0 }; locks = record { count = 0; span = [] } }
 
 -- each part has its row and its bound
 pub record Placed (f : PlanFile) (rows : Rows) (bounds : List Frac) : Type 0 where
@@ -73,17 +48,6 @@ pub record Placed (f : PlanFile) (rows : Rows) (bounds : List Frac) : Type 0 whe
 
 pub placed : (f : PlanFile) (rows : Rows) (bounds : List Frac) → FineFile f → length (rows .rows) ≡ 16 → length bounds ≡ 16 → Placed f rows bounds
 placed f rows bounds fine h k = record { parts-room = omega (arith, fine .few, fine .room); rows-room = omega (arith, fine .few, h); bounds-room = omega (arith, fine .few, k) }
-
--- the part at a place is fine
-module _ (f : PlanFile) (fine : FineFile f) (k : ℕ) (h : k < f .count) where
-  same-part : getD (f .parts) k noPartRead ≡ getD (f .parts) k blankPart
-  same-part = getD-any (f .parts) k noPartRead blankPart (omega (arith, fine .few, fine .room))
-
-  pub part-fine : FinePart (getD (f .parts) k blankPart .part)
-  part-fine = subst (λ (p : PartRead). FinePart (p .part)) same-part (fine .parts k h)
-
-  pub part-counts : FineCounts (getD (f .parts) k blankPart)
-  part-counts = subst FineCounts same-part (fine .counts k h)
 
 module _ (s : List ℕ) (f : PlanFile) (rows : Rows) (bounds : List Frac) where
   -- the share at the place k, the shares from there on, and the load line of the row with this number
@@ -106,7 +70,7 @@ module _ (s : List ℕ) (f : PlanFile) (rows : Rows) (bounds : List Frac) where
     shares-more : (k : ℕ) → k < n → sharesFrom k ≡ shareAt k ∷ sharesFrom (suc k)
     shares-more k m =
         rw (cut (f .parts) blankPart k (room .parts-room) m, cut (rows .rows) noRow k (room .rows-room) m, cut bounds noFrac k (room .bounds-room) m)
-        (shares-cons s (getD (f .parts) k blankPart) (getD (rows .rows) k noRow) (getD bounds k noFrac) (drop (suc k) (take n (f .parts))) (drop (suc k) (take n (rows .rows))) (drop (suc k) (take n bounds)))
+        (zip3-cons (shareRead s) (getD (f .parts) k blankPart) (getD (rows .rows) k noRow) (getD bounds k noFrac) (drop (suc k) (take n (f .parts))) (drop (suc k) (take n (rows .rows))) (drop (suc k) (take n bounds)))
 
     pub parts-more : (k : ℕ) → k < n → linesOf (sharesFrom k) ≡ shareLines (shareAt k) ++ linesOf (sharesFrom (k + 1))
     parts-more k m =
@@ -119,14 +83,14 @@ module _ (s : List ℕ) (f : PlanFile) (rows : Rows) (bounds : List Frac) where
     parts-end k m =
         ap (λ (ps : List PartRead). linesOf (sharesRead s ps (drop k (take n (rows .rows))) (drop k (take n bounds))))
         (drop-of-length-le (take n (f .parts)) {i = k} (omega (arith, length-take-le n (f .parts) (room .parts-room))))
-        ∙ ap linesOf (shares-none s (drop k (take n (rows .rows))) (drop k (take n bounds))) ∙ lines-none
+        ∙ ap linesOf (zip3-none (shareRead s) (drop k (take n (rows .rows))) (drop k (take n bounds))) ∙ lines-none
 
     load-at : (k : ℕ) → k < n → loadLine (nthOr noShare (suc k) (sharesFrom 0)) ≡ loadLine (named (bytesOf s (getD (f .parts) k blankPart .name)) (getD bounds k noFrac))
     load-at k m =
         let ps = take n (f .parts) in
         let rs = take n (rows .rows) in
         let bs = take n bounds in
-        let there = share-at s ps rs bs k blankPart noRow noFrac (omega (arith, length-take-le n (f .parts) (room .parts-room))) (omega (arith, length-take-le n (rows .rows) (room .rows-room))) (omega (arith, length-take-le n bounds (room .bounds-room))) in
+        let there = zip3-get (shareRead s) noShare blankPart noRow noFrac k ps rs bs (omega (arith, length-take-le n (f .parts) (room .parts-room))) (omega (arith, length-take-le n (rows .rows) (room .rows-room))) (omega (arith, length-take-le n bounds (room .bounds-room))) in
         ap loadLine (nth-get noShare k (sharesFrom 0) ∙ there)
         ∙ load-named s (getD ps k blankPart) (getD rs k noRow) (getD bs k noFrac)
         ∙ ap₂ (λ (p : PartRead) (b : Frac). loadLine (named (bytesOf s (p .name)) b)) (getD-take n (f .parts) k blankPart m) (getD-take n bounds k noFrac m)

@@ -85,8 +85,10 @@ module _ (s : List ℕ) (r : PartRead) (q : FilePart) (is : numbersOf q ≡ part
     locks-are = locks-same;
   }
 
+pub counts-at : (s : List ℕ) (f : PlanFile) → ReadIs s f → (k : ℕ) (d : PartRead) → k < f .count → FineCounts (getD (f .parts) k d)
+counts-at s f is k d l = subst FineCounts (getD-any (f .parts) k noPartRead d (omega (arith, is .few, is .room))) (is .counts k l)
+
 pub handed-fine : (s : List ℕ) (f : PlanFile) → ReadIs s f → (h : Handed s f) (k : ℕ) (d : PartRead) → k < f .count → PartFine (getD (f .parts) k d .part) (getD (h .parts) k noPart)
 handed-fine s f is h k d l =
-    let counts = subst FineCounts (getD-any (f .parts) k noPartRead d (omega (arith, is .few, is .room))) (is .counts k l) in
     let m = getD-member (h .parts) k noPart (omega (arith, h .count)) in
-    part-fine s (getD (f .parts) k d) (getD (h .parts) k noPart) (part-handed s f h k d l) counts (read-fine s (h .parts) (h .reads) _ m)
+    part-fine s (getD (f .parts) k d) (getD (h .parts) k noPart) (part-handed s f h k d l) (counts-at s f is k d l) (read-fine s (h .parts) (h .reads) _ m)

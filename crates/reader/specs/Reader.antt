@@ -59,6 +59,10 @@ closedPart name P ts n locks = record { name = name; part = record { period = P;
 abbrev pub noPartRead : PartRead
 noPartRead = closedPart noSpan 0 (pad 16 noTaskRead []) 0 noNames
 
+-- what is read past the end of an array of parts, which nobody does
+abbrev pub blankPart : PartRead
+blankPart = record { name = noSpan; part = record { period = 0; tasks = []; count = 0; locks = 0 }; locks = record { count = 0; span = [] } }
+
 pub record FineCounts (r : PartRead) : Type 0 where
   pub few : r .part .count ≤ 16
   pub room : length (r .part .tasks) ≡ 16

@@ -6,7 +6,7 @@ use borrow.Author.Needs.{needs}
 use mathlib.Core.Path.{_≡_, ap}
 use lib.ListN.{length, length-map}
 use Rattle.printing.specs.Printing.{listingAt, sharesIn}
-use Rattle.printing.proofs.Shares.{linesOf, Placed, placed, part-fine, part-counts, sharesFrom, parts-more-length, parts-end, listing-length}
+use Rattle.printing.proofs.Shares.{linesOf, Placed, placed, sharesFrom, parts-more-length, parts-end, listing-length}
 use Rattle.printing.proofs.listing_length.Statement.{statement}
 use Rattle.printing.proofs.listing_length.Tie as tie
 
@@ -73,7 +73,7 @@ part-length-requires c κs =
     let l = c .before .before .before .before .loop in
     let s = c .before .before .before .before .before .before .before .before .before in
     let f = s .args .t2 in
-    (part-fine f (s .pre .fine) (l .k) (omega arith), (part-counts f (s .pre .fine) (l .k) (omega arith), s .pre .short))
+    (s .pre .fine .parts (l .k) (omega arith), (s .pre .fine .counts (l .k) (omega arith), s .pre .short))
 
 add-total : tie.Need-add-total Inv-loop μ-loop
 add-total c =

@@ -9,7 +9,7 @@ use lib.ListN.{length-map}
 use Rattle.writer.proofs.Written.{Left, left-start, left-as, left-room, left-more, left-none, left-last}
 use Rattle.listing.specs.Listing.{shareLines}
 use Rattle.printing.specs.Printing.{listingAt, sharesIn}
-use Rattle.printing.proofs.Shares.{linesOf, Placed, placed, part-fine, part-counts, shareAt, sharesFrom, loadAt, parts-more, parts-end, listing-pieces}
+use Rattle.printing.proofs.Shares.{linesOf, Placed, placed, shareAt, sharesFrom, loadAt, parts-more, parts-end, listing-pieces}
 use Rattle.printing.proofs.write_listing.Statement.{statement}
 use Rattle.printing.proofs.write_listing.Tie as tie
 
@@ -115,7 +115,7 @@ write-part-requires c κs =
     let l = c .before .before .before .before .before .loop in
     let s = c .before .before .before .before .before .before .before .before .before .before .before .before .before .before in
     let f = s .args .t2 in
-    (part-fine f (s .pre .0 .fine) (l .k) (omega arith), (part-counts f (s .pre .0 .fine) (l .k) (omega arith), left-room (part s (l .k)) (partsFrom s (l .k + 1)) (cut c)))
+    (s .pre .0 .fine .parts (l .k) (omega arith), (s .pre .0 .fine .counts (l .k) (omega arith), left-room (part s (l .k)) (partsFrom s (l .k + 1)) (cut c)))
 
 add-k : tie.Need-add-k Inv-loop μ-loop
 add-k c = search needs
