@@ -1,4 +1,5 @@
 // What the bytes of a field say: words, names and numbers.
+use refusal::NUMBER_LIMIT;
 ghost use mathlib.Core.Path.{_≡_};
 ghost use Prim.Native.Nat.{_-_};
 ghost use Rattle.text.specs.Bytes.{same};
@@ -10,9 +11,6 @@ pub enum Number {
     Is(u64),
     Malformed,
 }
-
-// The greatest number of a file.
-const NUMBER_LIMIT: u64 = 65535;
 
 // The greatest length of a name.
 const NAME_LIMIT: usize = 8;

@@ -3,6 +3,7 @@ use answers::Supplied;
 use load::Row;
 use load::Rows;
 use load::Weighed;
+use refusal::NUMBER_LIMIT;
 use refusal::Outcome;
 use refusal::Refusal;
 ghost use mathlib.Core.Path.{_≡_};
@@ -14,8 +15,6 @@ ghost use Rattle.refusal.specs.Limits.{numberLimit, rowLimit};
 ghost use Rattle.load.specs.Weigh.{rowsFrom, weighOf};
 ghost use Rattle.answers.specs.Answers.{supplyAnswer, supplied};
 ghost use Rattle.hand_set.specs.Gathered.{withRow};
-
-const NUMBER_LIMIT: u64 = 65535;
 
 // Question 12 for a period, a budget and a time.
 fn is_in_range(p: u64, q: u64, t: u64) -> bool

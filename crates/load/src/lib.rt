@@ -1,5 +1,6 @@
 // The system test of rows, their bounds and their load.
 use least::Frac;
+use refusal::NUMBER_LIMIT;
 use refusal::Outcome;
 use refusal::Refusal;
 ghost use mathlib.Core.Path.{_≡_};
@@ -16,9 +17,6 @@ ghost use Rattle.load.specs.Load.{row, rowSum, ratio, boundOf, boundsOf}
 ghost use Rattle.load.specs.Weigh.{rowInRange, hasTime, weighed, weighOf, rowsOf, weighRows};
 ghost use Rattle.load.specs.ByColumn.{sharesOf, rowsBy, FineColumns, SameUntil};
 ghost use Rattle.load.specs.Code.{noFrac, FineRows, ColumnsAre, InRange, FineBounds};
-
-// The greatest number of a row.
-const LIMIT: u64 = 65535;
 
 // A row: a period P, a budget Q and a holding time X.
 #[repr(C)]
@@ -186,10 +184,10 @@ fn row_in_range(r: Row) -> bool
     if r.period < r.budget {
         return false;
     }
-    if LIMIT < r.period {
+    if NUMBER_LIMIT < r.period {
         return false;
     }
-    if LIMIT < r.holding {
+    if NUMBER_LIMIT < r.holding {
         return false;
     }
     true

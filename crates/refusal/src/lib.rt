@@ -2,6 +2,9 @@
 ghost use mathlib.Core.Path.{_≡_};
 ghost use Rattle.refusal.specs.Number.{refusalNumber, refusalPlace, numberOf, placeOf};
 
+// The greatest number of a file, and of a period, a budget, a holding time or a time set by hand.
+pub const NUMBER_LIMIT: u64 = 65535;
+
 // A refusal by its question, with the place where the paper gives one.
 pub enum Refusal {
     // 1. Is the file at most 32,768 bytes?
