@@ -2,10 +2,10 @@
 -- Assumes nothing.
 use Prim.Native.Nat.{ℕ, suc, _≤_, _<_}
 use native.Mathlib.Omega.{arith}
-use mathlib.Core.Path.{_≡_, refl, _∙_}
-use mathlib.Core.Bool.{Bool, true, false, _&&_, and-false}
+use mathlib.Core.Path.{_≡_, refl, sym, _∙_}
+use mathlib.Core.Bool.{Bool, true, false, not, _&&_, and-false}
 use mathlib.Core.List.{List}
-use borrow.Author.Tests.{lt-ltb, le-ltb, le-leb, lt-leb}
+use borrow.Author.Tests.{lt-ltb, le-ltb, le-leb, lt-leb, not-false}
 use lib.Dec.{leb, ltb}
 use lib.ListN.{length}
 use Rattle.text.specs.Bytes.{among, mention}
@@ -94,6 +94,10 @@ module _ (T C D : List ℕ) where
 pub record Named (allowed : Bool) (name : List ℕ) : Type 0 where
   pub here : allowed ≡ true
   pub good : isName name ≡ true
+
+-- as the code tells it: neither `!allowed` nor `!good` held, where `good` is what `is_name` gave
+pub named-by-tests : (allowed good : Bool) (name : List ℕ) → not allowed ≡ false → good ≡ isName name → not good ≡ false → Named allowed name
+named-by-tests allowed good name a is g = record { here = not-false allowed a; good = sym is ∙ not-false good g }
 
 -- question 6 of a part or a task, and whether there is room for one name more
 module _ (s : List ℕ) (names : Names) (fine : FineNames names) where

@@ -110,18 +110,11 @@ pub fn seen_part(seen: Seen, name: Span) -> Seen
     requires { ⌜ seen .parts .count < 16 ⌝ }
     ensures { λ r. ⌜ r ≡ seenPart seen name ⌝ }
 {
-    let none = no_names();
-    let ps = seen.parts;
-    let parts = with_name(ps, name);
-    let last = no_task();
-    Seen {
-        fresh: true,
-        ended: false,
-        parts,
-        tasks: none,
-        locks: none,
-        last,
-    }
+    let parts = seen.parts;
+    let mut next = none_seen();
+    next.fresh = true;
+    next.parts = with_name(parts, name);
+    next
 }
 
 // Behind a `task` line with this name.
@@ -129,18 +122,13 @@ pub fn seen_task(seen: Seen, name: Span, task: Task) -> Seen
     requires { ⌜ seen .tasks .count < 16 ⌝ }
     ensures { λ r. ⌜ r ≡ seenTask seen name task ⌝ }
 {
-    let ts = seen.tasks;
-    let parts = seen.parts;
-    let locks = seen.locks;
-    let tasks = with_name(ts, name);
-    Seen {
-        fresh: false,
-        ended: false,
-        parts,
-        tasks,
-        locks,
-        last: task,
-    }
+    let tasks = seen.tasks;
+    let mut next = seen;
+    next.fresh = false;
+    next.ended = false;
+    next.tasks = with_name(tasks, name);
+    next.last = task;
+    next
 }
 
 // The names with one more, where j is the place behind them.
@@ -160,34 +148,21 @@ pub fn seen_lock(seen: Seen, name: Span, j: usize, task: Task) -> Seen
     requires { ⌜ j < 16 ⌝ }
     ensures { λ r. ⌜ r ≡ seenLock seen name j task ⌝ }
 {
-    let parts = seen.parts;
-    let tasks = seen.tasks;
-    let ls = seen.locks;
-    let locks = with_lock(ls, name, j);
-    Seen {
-        fresh: false,
-        ended: false,
-        parts,
-        tasks,
-        locks,
-        last: task,
-    }
+    let locks = seen.locks;
+    let mut next = seen;
+    next.fresh = false;
+    next.ended = false;
+    next.locks = with_lock(locks, name, j);
+    next.last = task;
+    next
 }
 
 // Behind the `end` line.
 pub fn seen_end(seen: Seen) -> Seen
     ensures { λ r. ⌜ r ≡ seenEnd seen ⌝ }
 {
-    let parts = seen.parts;
-    let tasks = seen.tasks;
-    let locks = seen.locks;
-    let last = seen.last;
-    Seen {
-        fresh: false,
-        ended: true,
-        parts,
-        tasks,
-        locks,
-        last,
-    }
+    let mut next = seen;
+    next.fresh = false;
+    next.ended = true;
+    next
 }

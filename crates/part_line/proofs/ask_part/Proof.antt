@@ -2,11 +2,11 @@
 -- Assumes nothing.
 use Prim.Native.Nat.{_≤_}
 use mathlib.Core.Path.{_≡_}
-use mathlib.Core.Bool.{true, false}
+use mathlib.Core.Bool.{false}
 use borrow.Author.Tests.{not-true, not-false}
 use Rattle.scan.specs.Scan.{bytesOf}
 use Rattle.plan_file.specs.Entries.{namesOf, placeOf}
-use Rattle.plan_file.proofs.Asking.{NumberIs, number-is, number-malformed, Named, part-misplaced, part-misnamed, part-known, part-misnumbered, part-too-many, part-enters}
+use Rattle.plan_file.proofs.Asking.{NumberIs, number-is, number-malformed, Named, named-by-tests, part-misplaced, part-misnamed, part-known, part-misnumbered, part-too-many, part-enters}
 use borrow.Author.Needs.{needs}
 use Rattle.part_line.proofs.ask_part.Statement.{statement}
 use Rattle.part_line.proofs.ask_part.Tie as tie
@@ -16,9 +16,7 @@ abbrev start : tie.Else2 → tie.Start
 start c = c .before .before .before .before .before
 
 named : (c : tie.Else2) → let a = start c .args in Named (a .allowed) (bytesOf (a .s .now) (a .name))
-named c =
-    let t : c .before .is-name .result ≡ true = not-false _ (c .if2 .left) in
-    record { here = not-false (start c .args .allowed) (c .before .before .before .if1 .left); good = cc }
+named c = named-by-tests (start c .args .allowed) (c .before .is-name .result) _ (c .before .before .before .if1 .left) (cc) (c .if2 .left)
 
 -- behind question 6
 new : (c : tie.Else3) → let a = start (c .before .before) .args in a .parts .count ≤ placeOf (bytesOf (a .s .now) (a .name)) (namesOf (a .s .now) (a .parts))

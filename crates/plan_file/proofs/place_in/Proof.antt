@@ -1,10 +1,10 @@
 -- `plan_file::place_in` meets its contract. The invariant: the place is i more than the place among the names that are left.
 -- Assumes nothing.
-use Prim.Native.Nat.{_+_, _-_, _≤_}
+use Prim.Native.Nat.{ℕ, _+_, _-_, _≤_}
 use native.Mathlib.Nat.{zero-add}
 use native.Mathlib.Omega.{arith}
-use mathlib.Core.Path.{_≡_, _∙_}
-use mathlib.Core.List.{map}
+use mathlib.Core.Path.{_≡_, sym, ap, _∙_}
+use mathlib.Core.List.{List, map}
 use lib.ListN.{length, take, drop}
 use Rattle.scan.specs.Scan.{bytesOf}
 use Rattle.plan_file.specs.Entries.{namesOf, placeOf}
@@ -43,7 +43,9 @@ unfolding namesOf
 returns c =
     let l = c .before .before .before .before .before in
     let a = l .before .before .before .before .args in
-    cc (place-here (a .s .now) (l .before .bytes .result .now) (a .names .count) (a .names .span) (l .loop .inv .0) (l .loop .i) (omega arith) (cc))
+    sym (place-here (a .s .now) (l .before .bytes .result .now) (a .names .count) (a .names .span) (l .loop .inv .0) (l .loop .i) (omega arith) (cc))
+    ∙ l .loop .inv .2
+    ∙ ap (λ (name : List ℕ). placeOf name (namesOf (a .s .now) (a .names))) (l .before .bytes .ensures)
 
 add-i : tie.Need-add-i Inv-loop μ-loop
 add-i c = search needs
