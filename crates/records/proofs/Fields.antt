@@ -63,7 +63,7 @@ fields-none : (s : List ℕ) (at : ℕ) → fieldsOf [] ≡ pieces s at (tabsFro
 unfolding fieldsOf pieces tabsFrom
 fields-none s at = rw add-zero (ap (λ (l : List ℕ). l ∷ []) (sym (stretch-empty s at)))
 
-pub fields-pieces : (s bs r : List ℕ) (at : ℕ) → drop at s ≡ bs ++ r → fieldsOf bs ≡ pieces s at (tabsFrom bs at) (at + length bs)
+fields-pieces : (s bs r : List ℕ) (at : ℕ) → drop at s ≡ bs ++ r → fieldsOf bs ≡ pieces s at (tabsFrom bs at) (at + length bs)
 unfolding tabsFrom
 fields-pieces s [] r at h = fields-none s at
 fields-pieces s (b ∷ bs) r at h = go (eqb b 9) refl (fields-pieces s bs r (suc at) (drop-next s at b (bs ++ r) h))

@@ -22,7 +22,7 @@ module _ (s : List ℕ) (c : Cursor) (l : Scanned) (is : l ≡ lineAt s (c .at))
   good-of : {b : Bool} → l .good ≡ b → lineIsGood (theLine s (c .at)) ≡ b
   good-of g = sym (scanned-good s (c .at)) ∙ (sym (ap (λ (x : Scanned). x .good) is) ∙ g)
 
-  pub good-known : l .good ≡ true → GoodLine s (c .at)
+  good-known : l .good ≡ true → GoodLine s (c .at)
   good-known g = good-line s (c .at) (good-of g)
 
   pub tabs-within : l .good ≡ true → (j : ℕ) → getD (l .tabs .place) j 0 ≤ length s

@@ -2,8 +2,7 @@
 use scan::Scanned;
 use scan::Span;
 ghost use mathlib.Core.Path.{_≡_};
-ghost use Prim.Native.Nat.{ℕ, _<_, _≤_, _^_};
-ghost use lib.ListN.{getD};
+ghost use Prim.Native.Nat.{_<_, _≤_, _^_};
 ghost use Rattle.records.specs.Shapes.{upTo, endOf, firstField, field, wordOf, partShape, taskShape, lockShape, endShape, shapeOf, TabsSmall};
 ghost use Rattle.records.specs.Cursor.{NextIs};
 

@@ -35,7 +35,7 @@ unfolding linesOf intoLine bodyOf isEnded
 into-first b [] ih = refl
 into-first b (c ∷ cs) ih = ap (intoLine b) (ih (omega arith))
 
-pub lines-first : (xs : List ℕ) → 1 ≤ length xs → linesOf xs ≡ firstLine xs ∷ linesOf (drop (suc (length (bodyOf xs))) xs)
+lines-first : (xs : List ℕ) → 1 ≤ length xs → linesOf xs ≡ firstLine xs ∷ linesOf (drop (suc (length (bodyOf xs))) xs)
 unfolding bodyOf isEnded
 lines-first [] h = absurd (omega arith)
 lines-first (b ∷ bs) h = go (eqb b 10) refl (into-first b bs (lines-first bs))
@@ -44,7 +44,7 @@ lines-first (b ∷ bs) h = go (eqb b 10) refl (into-first b bs (lines-first bs))
     go true e r = lines-newline b bs e ∙ simp e
     go false e r = lines-more b bs e ∙ r ∙ simp e
 
--- a line that is ended has one byte more than its bytes
+-- behind the bytes of a line that is ended stands one byte more
 body-ended : (xs : List ℕ) → isEnded xs ≡ true → length (bodyOf xs) < length xs
 unfolding bodyOf isEnded
 body-ended [] e = absurd (false≢true e)

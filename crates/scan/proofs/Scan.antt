@@ -1,4 +1,4 @@
--- The laws of `lineAt`: what it says of the rest of a line, of which some tabs have been passed; and that every position of a line lies within the file.
+-- The laws of `lineAt`, one byte after another: what it says of the rest of a line of which some tabs have been passed.
 -- Assumes nothing.
 use Prim.Native.Nat.{ℕ, _+_, _≤_, _<_, min}
 use native.Mathlib.Nat.{add-suc, suc-add, add-zero}

@@ -1,5 +1,5 @@
 -- Lines and fields are the file and the line, cut at each byte 10 and at each byte 9: put together again they give the same bytes,
--- and no line has a byte 10, no field a byte 9.
+-- and no line has a byte 10, no field a byte 9. Two lists of bytes pass the test `same` exactly if they are equal.
 -- Assumes nothing.
 use Prim.Native.Nat.{ℕ}
 use mathlib.Core.Path.{_≡_, refl, sym, ap, ap₂, _∙_}
@@ -118,7 +118,7 @@ lines-endless (b ∷ bs) = go (eqb b 10) refl (lines-endless bs)
     go true e ih = rw (e, linesOf) (every-pass (bodyWithout 10) (record { body = []; ended = true }) (linesOf bs) (without-none 10) ∙ ih)
     go false e ih = rw (e, linesOf) (lines-into b (linesOf bs) e ih)
 
--- two lists of bytes pass the test exactly if they are equal
+-- the test `same`
 pub same-refl : (a : List ℕ) → same a a ≡ true
 unfolding same
 same-refl [] = refl

@@ -12,7 +12,7 @@ use Rattle.least.proofs.Lists.{every-none, every-snoc}
 use Rattle.text.specs.Decimal.{isDigit, valueAfter, valueOf, digitsWithin, digitsOf}
 
 -- one digit more at the end
-pub value-snoc : (v : ℕ) (ds : List ℕ) (d : ℕ) → valueAfter v (ds ++ (d ∷ [])) ≡ valueAfter v ds * 10 + (d - 48)
+value-snoc : (v : ℕ) (ds : List ℕ) (d : ℕ) → valueAfter v (ds ++ (d ∷ [])) ≡ valueAfter v ds * 10 + (d - 48)
 unfolding valueAfter
 value-snoc v [] d = refl
 value-snoc v (e ∷ ds) d = value-snoc (v * 10 + (e - 48)) ds d

@@ -1,6 +1,6 @@
 -- `inquiries::name_stretch` meets its contract: the stretch that the reader handed on, or a refusal.
 -- Assumes nothing.
-use mathlib.Core.Path.{sym, ap, subst, _∙_}
+use mathlib.Core.Path.{sym, subst, _∙_}
 use native.Mathlib.Omega.{arith}
 use borrow.Author.Needs.{needs}
 use Rattle.reader.proofs.Handed.{handed-refused, handed-done}
