@@ -13,7 +13,7 @@ use Rattle.refusal.specs.declared.Refusal.the-variants.{NoRoom}
 use Rattle.refusal.specs.Number.{refusalNumber}
 use Rattle.refusal.specs.Questions.{Answer}
 use Rattle.refusal.specs.Questions.Answer.{answered, refused}
-use Rattle.refusal.proofs.Answers.{answered-not-refused, refused-same}
+use Rattle.refusal.proofs.Answers.{answered-not-refused, answer-same-refusal}
 use Rattle.plan_file.specs.Above.{FilePart}
 use Rattle.plan_file.specs.Reading.{readFile}
 use Rattle.plan_file.proofs.Fine.{read-fine, read-few}
@@ -42,13 +42,13 @@ pub enough-room : (room : ℕ) → 3690 ≤ room → (s : List ℕ) → planOf s
 enough-room room h s e = go (readFile s) refl
   where
     read : (ps : List FilePart) → readFile s ≡ answered ps → Planning planOf s ps → ⊥
-    read ps f (refusing r n are) = number-not-14 r (none-to-11 n) (refused-same (sym (are room) ∙ e))
+    read ps f (refusing r n are) = number-not-14 r (none-to-11 n) (answer-same-refusal (sym (are room) ∙ e))
     read ps f (planning text p are) =
         fits-not-14 text room (omega (arith, printed-most (read-fine s ps f) p (read-few s ps f))) (sym (are room) ∙ e)
 
     go : (a : Answer (List FilePart)) → readFile s ≡ a → ⊥
     go (answered ps) f = read ps f (demand-3 s ps f)
-    go (refused r) f = number-not-14 r (omega (arith, read-refused-to-nine s r f)) (refused-same (sym (plan-unread s r f room) ∙ e))
+    go (refused r) f = number-not-14 r (omega (arith, read-refused-to-nine s r f)) (answer-same-refusal (sym (plan-unread s r f room) ∙ e))
 
 -- the program lends 8,192 bytes, enough for any listing
 pub any-listing-fits : (s : List ℕ) → planOf s programRoom ≡ refused NoRoom → ⊥

@@ -15,7 +15,7 @@ use Rattle.refusal.specs.declared.Refusal.the-variants.{BadHandSet}
 use Rattle.refusal.specs.declared.Outcome.the-variants.{Done}
 use Rattle.refusal.specs.Questions.{outcomeOf, whenAnswered, whenDone, firstNo}
 use Rattle.refusal.specs.Questions.Answer.{answered, refused}
-use Rattle.refusal.proofs.Answers.{done-not-refused, same-refusal}
+use Rattle.refusal.proofs.Answers.{done-not-refused, outcome-same-refusal}
 use Rattle.scan.specs.declared.Span.{Span}
 use Rattle.scan.specs.Scan.{bytesOf}
 use Rattle.plan_file.specs.Above.{noPart}
@@ -63,7 +63,7 @@ unfolding noName outcomeOf nameBytes bytesOf
 stretch-refused s k r e = record {
   outcome = sym (ap outcomeOf e);
   bytes = sym (ap nameBytes e);
-  refusal = λ x h. ap noName (same-refusal h);
+  refusal = λ x h. ap noName (outcome-same-refusal h);
 }
 
 pub stretch-given : (s : List ℕ) (k : ℕ) (name : List ℕ) (p : Span) → nameOf s k ≡ answered name → name ≡ bytesOf s p → StretchIs s k (record { outcome = Done; span = p })

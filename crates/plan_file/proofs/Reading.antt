@@ -19,7 +19,7 @@ use Rattle.refusal.specs.declared.Outcome.the-variants.{Done, Refused}
 use Rattle.refusal.specs.Limits.{fileLimit}
 use Rattle.refusal.specs.Questions.{firstNo, whenDone}
 use Rattle.refusal.specs.Questions.Answer.{answered, refused}
-use Rattle.refusal.proofs.Answers.{answered-not-refused, answered-same, refused-same}
+use Rattle.refusal.proofs.Answers.{answered-not-refused, answer-same-value, answer-same-refusal}
 use Rattle.refusal.specs.FirstNo.{allYes}
 use Rattle.refusal.proofs.Questions.{refused-iff, done-iff}
 use Rattle.scan.specs.Line.{lineIsGood}
@@ -159,7 +159,7 @@ pub read-refused-iff : (s : List ℕ) (r : Refusal) → (readFile s ≡ refused 
 read-refused-iff s r = (λ e. go e (file-known s), refused-so s r)
   where
     go : readFile s ≡ refused r → Known s → RefusedAt s r
-    go e (inl d) = subst (RefusedAt s) (refused-same (sym (refused-so s (d .0) (d .1)) ∙ e)) (d .1)
+    go e (inl d) = subst (RefusedAt s) (answer-same-refusal (sym (refused-so s (d .0) (d .1)) ∙ e)) (d .1)
     go e (inr d) = absurd (answered-not-refused (sym (answered-so s (d .0) (d .1)) ∙ e))
 
 pub read-answered-iff : (s : List ℕ) (ps : List FilePart) → (readFile s ≡ answered ps) ↔ AnsweredBy s ps
@@ -167,7 +167,7 @@ read-answered-iff s ps = (λ e. go e (file-known s), answered-so s ps)
   where
     go : readFile s ≡ answered ps → Known s → AnsweredBy s ps
     go e (inl d) = absurd (answered-not-refused (sym e ∙ refused-so s (d .0) (d .1)))
-    go e (inr d) = subst (AnsweredBy s) (answered-same (sym (answered-so s (d .0) (d .1)) ∙ e)) (d .1)
+    go e (inr d) = subst (AnsweredBy s) (answer-same-value (sym (answered-so s (d .0) (d .1)) ∙ e)) (d .1)
 
 pub read-keeps : (I : Above → Type 0) → ((n : ℕ) (a : Above) (r : Record) → I a → firstNo (recordQuestions n a r) ≡ Done → I (after a r)) → I nothingAbove
     → (s : List ℕ) (ps : List FilePart) → readFile s ≡ answered ps → I (said nothingAbove (linesOf s))

@@ -15,7 +15,7 @@ use Rattle.refusal.specs.declared.Outcome.the-variants.{Done, Refused}
 use Rattle.refusal.specs.Questions.{Question, Answer, firstNo, whenAnswered, whenDone}
 use Rattle.refusal.specs.Questions.Answer.{answered, refused}
 use Rattle.refusal.specs.FirstNo.{FirstNo}
-use Rattle.refusal.proofs.Answers.{answered-not-refused, answered-same, refused-same}
+use Rattle.refusal.proofs.Answers.{answered-not-refused, answer-same-value, answer-same-refusal}
 use Rattle.refusal.proofs.Questions.{refused-iff, only-first, first-of-two, first-of-three, asked-iff}
 use Rattle.load.specs.declared.Row.{Row}
 use Rattle.load.specs.Weigh.{weighQuestions, weighed, weighOf}
@@ -40,7 +40,7 @@ module _ {A : Type 0} (s : List ℕ) (questions : List FilePart → List Questio
   behind : (x : Answer (List FilePart)) → readFile s ≡ x → answer x ≡ refused r → RefusedBehind s questions r
   unfolding whenAnswered
   behind (answered parts) e h = inr (parts, read-answered-iff s parts .0 e, asked-iff (questions parts) (value parts) r .0 h)
-  behind (refused x) e h = inl (read-refused-iff s r .0 (e ∙ ap refused (refused-same h)))
+  behind (refused x) e h = inl (read-refused-iff s r .0 (e ∙ ap refused (answer-same-refusal h)))
 
   back : RefusedBehind s questions r → answer (readFile s) ≡ refused r
   unfolding whenAnswered
@@ -86,7 +86,7 @@ some-row {j = j} (inr (inr e)) = inr (j, e)
 
 -- a listing that is answered fits
 fits-or-14 : (text u : List ℕ) (room : ℕ) (b : Bool) → leb (length text) room ≡ b → cond b (answered text) (refused NoRoom) ≡ answered u → length u ≤ room
-fits-or-14 text u room true b e = subst (λ (l : List ℕ). length l ≤ room) (answered-same e) (leb-true (length text) room b)
+fits-or-14 text u room true b e = subst (λ (l : List ℕ). length l ≤ room) (answer-same-value e) (leb-true (length text) room b)
 fits-or-14 text u room false b e = absurd (answered-not-refused (sym e))
 
 answered-fits : (s : List ℕ) (room : ℕ) (text : List ℕ) → planOf s room ≡ answered text → length text ≤ room

@@ -12,7 +12,7 @@ use Rattle.refusal.specs.declared.Outcome.{Outcome}
 use Rattle.refusal.specs.declared.Outcome.the-variants.{Done, Refused}
 use Rattle.refusal.specs.Questions.{Answer}
 use Rattle.refusal.specs.Questions.Answer.{answered, refused}
-use Rattle.refusal.proofs.Answers.{answered-not-refused, answered-same, refused-same}
+use Rattle.refusal.proofs.Answers.{answered-not-refused, answer-same-value, answer-same-refusal}
 use Rattle.plan_file.specs.Above.{FilePart, noPart}
 use Rattle.plan_file.specs.Reading.{readFile}
 use Rattle.reader.specs.declared.PartRead.{PartRead}
@@ -36,7 +36,7 @@ module _ (s : List ℕ) (f : PlanFile) (is : ReadIs s f) where
 
       go : (a : Answer (List FilePart)) → readFile s ≡ a → readFile s ≡ refused r
       go (answered ps) h = absurd (answered-not-refused (sym (said ∙ ap numbered h)))
-      go (refused x) h = h ∙ ap refused (sym (refused-same (said ∙ ap numbered h)))
+      go (refused x) h = h ∙ ap refused (sym (answer-same-refusal (said ∙ ap numbered h)))
 
   pub handed-done : f .outcome ≡ Done → Handed s f
   unfolding fileOf answerOf numbered
@@ -47,7 +47,7 @@ module _ (s : List ℕ) (f : PlanFile) (is : ReadIs s f) where
 
       go : (a : Answer (List FilePart)) → readFile s ≡ a → Handed s f
       go (answered ps) h =
-          let same : map (partOf s) (take (f .count) (f .parts)) ≡ map numbersOf ps = answered-same (said ∙ ap numbered h) in
+          let same : map (partOf s) (take (f .count) (f .parts)) ≡ map numbersOf ps = answer-same-value (said ∙ ap numbered h) in
           record {
             parts = ps;
             reads = h;

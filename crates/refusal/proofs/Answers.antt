@@ -11,15 +11,15 @@ use Rattle.refusal.specs.Questions.Answer.{answered, refused}
 pub done-not-refused : {r : Refusal} → Done ≡ Refused r → ⊥
 done-not-refused e = let z : _≡_ {A = ℕ} 0 1 = cc in omega arith
 
-pub same-refusal : {r s : Refusal} → Refused r ≡ Refused s → r ≡ s
-same-refusal e = cc
+pub outcome-same-refusal : {r s : Refusal} → Refused r ≡ Refused s → r ≡ s
+outcome-same-refusal e = cc
 
 module _ {A : Type 0} where
   pub answered-not-refused : {a : A} {r : Refusal} → answered a ≡ refused r → ⊥
   answered-not-refused e = let z : _≡_ {A = ℕ} 0 1 = cc in omega arith
 
-  pub answered-same : {a b : A} → answered a ≡ answered b → a ≡ b
-  answered-same e = cc
+  pub answer-same-value : {a b : A} → answered a ≡ answered b → a ≡ b
+  answer-same-value e = cc
 
-  pub refused-same : {r s : Refusal} → _≡_ {A = Answer A} (refused r) (refused s) → r ≡ s
-  refused-same e = cc
+  pub answer-same-refusal : {r s : Refusal} → _≡_ {A = Answer A} (refused r) (refused s) → r ≡ s
+  answer-same-refusal e = cc

@@ -11,7 +11,7 @@ use Rattle.refusal.specs.declared.Outcome.the-variants.{Done, Refused}
 use Rattle.refusal.specs.Questions.{Question, Answer, ask, firstNo, whenDone}
 use Rattle.refusal.specs.Questions.Answer.{answered, refused}
 use Rattle.refusal.specs.FirstNo.{allYes, FirstNo}
-use Rattle.refusal.proofs.Answers.{done-not-refused, same-refusal, answered-not-refused, refused-same}
+use Rattle.refusal.proofs.Answers.{done-not-refused, outcome-same-refusal, answered-not-refused, answer-same-refusal}
 
 -- a yes is passed over, a no is answered
 pub yes-next : (q : Question) (qs : List Question) → q .yes ≡ true → firstNo (q ∷ qs) ≡ firstNo qs
@@ -26,21 +26,21 @@ done-none : Done ≡ firstNo []
 unfolding firstNo
 done-none = refl
 
-pub no-first : (qs : List Question) (r : Refusal) → firstNo qs ≡ Refused r → FirstNo qs r
+refused-first-no : (qs : List Question) (r : Refusal) → firstNo qs ≡ Refused r → FirstNo qs r
 unfolding allYes
-no-first [] r e = absurd (done-not-refused (done-none ∙ e))
-no-first (q ∷ qs) r e = go (q .yes) refl (no-first qs r)
+refused-first-no [] r e = absurd (done-not-refused (done-none ∙ e))
+refused-first-no (q ∷ qs) r e = go (q .yes) refl (refused-first-no qs r)
   where
     go : (t : Bool) → q .yes ≡ t → (firstNo qs ≡ Refused r → FirstNo qs r) → FirstNo (q ∷ qs) r
     go true p ih = let f = ih (sym (yes-next q qs p) ∙ e) in (q ∷ f .0, f .1, ap (λ (l : List Question). q ∷ l) (f .2), simp (p, f .3))
     go false p ih =
-        let s : q .refusal ≡ r = same-refusal (sym (no-answers q qs p) ∙ e) in
+        let s : q .refusal ≡ r = outcome-same-refusal (sym (no-answers q qs p) ∙ e) in
         ([], qs, (λ i. record { refusal = s i; yes = p i } ∷ qs), refl)
 
-pub first-no : (before : List Question) (r : Refusal) (after : List Question) → allYes before ≡ true → firstNo (before ++ (ask r false ∷ after)) ≡ Refused r
+first-no-refused : (before : List Question) (r : Refusal) (after : List Question) → allYes before ≡ true → firstNo (before ++ (ask r false ∷ after)) ≡ Refused r
 unfolding allYes
-first-no [] r after h = no-answers (ask r false) after refl
-first-no (q ∷ qs) r after h = go (q .yes) refl (first-no qs r after)
+first-no-refused [] r after h = no-answers (ask r false) after refl
+first-no-refused (q ∷ qs) r after h = go (q .yes) refl (first-no-refused qs r after)
   where
     go : (t : Bool) → q .yes ≡ t → (allYes qs ≡ true → firstNo (qs ++ (ask r false ∷ after)) ≡ Refused r) → firstNo (q ∷ (qs ++ (ask r false ∷ after))) ≡ Refused r
     go true p ih = yes-next q (qs ++ (ask r false ∷ after)) p ∙ ih (simp p at h)
@@ -48,7 +48,7 @@ first-no (q ∷ qs) r after h = go (q .yes) refl (first-no qs r after)
 
 -- each refusal comes if its question has the answer no and those before it have yes, and in no other case
 pub refused-iff : (qs : List Question) (r : Refusal) → (firstNo qs ≡ Refused r) ↔ FirstNo qs r
-refused-iff qs r = (no-first qs r, λ f. ap firstNo (f .2) ∙ first-no (f .0) r (f .1) (f .3))
+refused-iff qs r = (refused-first-no qs r, λ f. ap firstNo (f .2) ∙ first-no-refused (f .0) r (f .1) (f .3))
 
 -- further questions do not change a refusal
 pub refused-before : (qs more : List Question) (r : Refusal) → firstNo qs ≡ Refused r → firstNo (qs ++ more) ≡ Refused r
@@ -89,7 +89,7 @@ first-or-later q qs r f = go (q .yes) refl
 
     go : (t : Bool) → q .yes ≡ t → (r ≡ q .refusal) ⊎ FirstNo qs r
     go true p = inr (refused-iff qs r .0 (sym (yes-next q qs p) ∙ e))
-    go false p = inl (same-refusal (sym e ∙ no-answers q qs p))
+    go false p = inl (outcome-same-refusal (sym e ∙ no-answers q qs p))
 
 pub only-first : (q : Question) (r : Refusal) → FirstNo (q ∷ []) r → r ≡ q .refusal
 only-first q r f = go (first-or-later q [] r f)
@@ -122,4 +122,4 @@ asked-iff {A} qs a r = ((λ e. refused-iff qs r .0 (go (firstNo qs) e)), λ f. a
 
     go : (o : Outcome) → whenDone o (answered a) ≡ refused r → o ≡ Refused r
     go Done e = absurd (answered-not-refused e)
-    go (Refused x) e = ap Refused (refused-same e)
+    go (Refused x) e = ap Refused (answer-same-refusal e)
