@@ -11,6 +11,7 @@ pub mod Pairwise
 pub mod Sums
 pub mod Fraction
 pub mod Pad
+pub mod Last
 pub mod Iterate
 pub mod Fill
 pub mod Numbers

@@ -3,8 +3,9 @@
 use Prim.Native.Nat.{ℕ, zero, suc, _+_, _≤_, _<_}
 use native.Mathlib.Nat.{le-of-lt, le-of-suc-le-suc, not-suc-le-zero}
 use native.Mathlib.Numerals.{add-one}
-use mathlib.Core.Path.{_≡_, refl, ap}
-use mathlib.Core.List.{List, [], _∷_, _++_}
+use native.Mathlib.Omega.{arith}
+use mathlib.Core.Path.{_≡_, refl, ap, ap₂}
+use mathlib.Core.List.{List, [], _∷_, _++_, map}
 use lib.ListN.{length, take, drop, set, getD, replicate}
 use lib.Seq.{take-suc, length-take-le}
 use Rattle.least.specs.Lists.{pad}
@@ -23,6 +24,14 @@ module _ {A : Type 0} where
   set-pad (suc k) z [] x h = refl
   set-pad (suc k) z (y ∷ ys) x h = ap (λ (l : List A). y ∷ l) (set-pad k z ys x (le-of-suc-le-suc h))
 
+  -- a store over an element is one into the list
+  pub set-pad-within : (k : ℕ) (z : A) (xs : List A) (i : ℕ) (x : A) → i < length xs → set (pad k z xs) i x ≡ pad k z (set xs i x)
+  unfolding pad
+  set-pad-within zero z xs i x h = refl
+  set-pad-within (suc k) z [] i x h = absurd (not-suc-le-zero h)
+  set-pad-within (suc k) z (y ∷ ys) zero x h = refl
+  set-pad-within (suc k) z (y ∷ ys) (suc i) x h = ap (λ (l : List A). y ∷ l) (set-pad-within k z ys i x (le-of-suc-le-suc h))
+
   -- a full array takes no more
   pub pad-full : (k : ℕ) (z : A) (xs ys : List A) → k ≤ length xs → pad k z (xs ++ ys) ≡ pad k z xs
   unfolding pad
@@ -37,6 +46,16 @@ module _ {A : Type 0} where
   getD-pad (suc k) z [] (suc i) h = getD-pad k z [] i (le-of-suc-le-suc h)
   getD-pad (suc k) z (x ∷ xs) zero h = refl
   getD-pad (suc k) z (x ∷ xs) (suc i) h = getD-pad k z xs i (le-of-suc-le-suc h)
+
+  -- and at every place, of a list that fits
+  pub getD-pad-fits : (k : ℕ) (z : A) (xs : List A) (i : ℕ) → length xs ≤ k → getD (pad k z xs) i z ≡ getD xs i z
+  unfolding pad
+  getD-pad-fits zero z [] i h = refl
+  getD-pad-fits zero z (x ∷ xs) i h = absurd (not-suc-le-zero h)
+  getD-pad-fits (suc k) z [] zero h = refl
+  getD-pad-fits (suc k) z [] (suc i) h = getD-pad-fits k z [] i (omega arith)
+  getD-pad-fits (suc k) z (x ∷ xs) zero h = refl
+  getD-pad-fits (suc k) z (x ∷ xs) (suc i) h = getD-pad-fits k z xs i (le-of-suc-le-suc h)
 
   -- no element, then one after the other
   pub pad-none : (k : ℕ) (z : A) → replicate k z ≡ pad k z []
@@ -65,3 +84,16 @@ module _ {A : Type 0} where
   pad-over zero z (x ∷ xs) h = absurd (not-suc-le-zero h)
   pad-over (suc k) z [] h = refl
   pad-over (suc k) z (x ∷ xs) h = ap (λ (l : List A). x ∷ l) (pad-over k z xs (le-of-suc-le-suc h))
+
+  -- the filler itself adds nothing
+  pub pad-filler : (k : ℕ) (z : A) (xs : List A) → pad k z (xs ++ (z ∷ [])) ≡ pad k z xs
+  unfolding pad
+  pad-filler zero z xs = refl
+  pad-filler (suc k) z [] = refl
+  pad-filler (suc k) z (x ∷ xs) = ap (λ (l : List A). x ∷ l) (pad-filler k z xs)
+
+  pub pad-fillers : {B : Type 0} (f : B → A) (k : ℕ) (z : A) (xs : List B) → ((x : B) → f x ≡ z) → pad k z (map f xs) ≡ pad k z []
+  unfolding pad
+  pad-fillers f zero z xs h = refl
+  pad-fillers f (suc k) z [] h = refl
+  pad-fillers f (suc k) z (x ∷ xs) h = ap₂ _∷_ (h x) (pad-fillers f k z xs h)

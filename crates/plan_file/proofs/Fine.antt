@@ -11,8 +11,10 @@ use mathlib.Core.List.{List, [], _∷_, _++_, List·Memᴰ, List·Memᴰ·not-ni
 use lib.ListN.{length, length-map, length-append}
 use Rattle.least.specs.Lists.{onLast, joined}
 use Rattle.least.proofs.Lists.{and-iff}
+use Rattle.least.proofs.Last.{last-member, length-on-last, snoc-each, on-last-each}
 use Rattle.text.specs.Bytes.{among, mention, distinctAfter}
 use Rattle.text.specs.Decimal.{valueOf}
+use Rattle.text.proofs.Names.{mention-known, mention-new}
 use Rattle.refusal.specs.declared.Outcome.the-variants.{Done}
 use Rattle.refusal.specs.Limits.{numberLimit, nameLimit, partLimit, taskLimit, lockLimit}
 use Rattle.refusal.specs.Questions.{firstNo}
@@ -24,8 +26,6 @@ use Rattle.records.specs.Records.Record.{part, task, lock, end, noRecord}
 use Rattle.plan_file.specs.Above.{FileLock, FileTask, FilePart, Above, noTask, noPart, thisPart, thisTask, lockMentions, lockNames, withLock, withTasks, partsAfter, after}
 use Rattle.plan_file.specs.Reading.{notBehindEnd, taskAbove, allowedHere, recordQuestions, readFile, partNames, taskNames, locksOf}
 use Rattle.plan_file.proofs.Reading.{read-answered-iff, read-keeps}
-use Rattle.plan_file.proofs.SeenLast.{last-member, length-on-last, snoc-each, on-last-each}
-use Rattle.plan_file.proofs.SeenNames.{mention-known, mention-new}
 use Rattle.plan_file.proofs.SeenLocks.{lock-names-task, lock-names-lock}
 use Rattle.plan_file.proofs.SeenPart.{lastTask}
 use Rattle.plan_file.proofs.SeenAbove.{taskOf, lockOf}

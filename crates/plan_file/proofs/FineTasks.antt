@@ -12,13 +12,13 @@ use Rattle.least.proofs.Lists.{some-iff, joined-map-iff, map-iff, nth-member}
 use Rattle.least.proofs.Greatest.{greatest-each}
 use Rattle.text.specs.Bytes.{same, among}
 use Rattle.text.proofs.Bytes.{same-refl}
+use Rattle.text.proofs.Names.{among-distinct}
 use Rattle.task_set.specs.declared.Task.{Task}
 use Rattle.task_set.specs.Tasks.{heldFor, greatestHeld}
 use Rattle.task_set.specs.Fine.{FineTask}
 use Rattle.plan_file.specs.Above.{FileLock, FileTask, FilePart, lockMentions, lockNames}
 use Rattle.plan_file.specs.Reading.{locksOf}
 use Rattle.plan_file.specs.Numbers.{heldUnder, taskIn, locksIn, tasksIn}
-use Rattle.plan_file.proofs.SeenNames.{among-distinct}
 use Rattle.plan_file.proofs.SeenLocks.{held-none, held-here, held-later, known-held}
 use Rattle.plan_file.proofs.Fine.{FineFileTask, FineFilePart}
 
@@ -36,7 +36,7 @@ nth-map f d (suc k) [] h l = absurd (omega arith)
 nth-map f d (suc zero) (x ∷ xs) h l = refl
 nth-map f d (suc (suc k)) (x ∷ xs) h l = nth-map f d (suc k) xs (omega arith) (omega arith)
 
--- a lock is held no longer than each of the locks
+-- what no lock of a list exceeds, the lock of a name among them does not exceed
 held-most : (b : ℕ) (name : List ℕ) (ls : List FileLock) → ((l : FileLock) → List·Memᴰ l ls → l .held ≤ b) → heldUnder name ls ≤ b
 held-most b name [] h = rw (held-none name) (omega arith)
 held-most b name (l ∷ ls) h = go (same name (l .name)) refl (held-most b name ls (λ k m. h k (List·Memᴰ·tail m)))

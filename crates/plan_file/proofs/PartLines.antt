@@ -10,6 +10,7 @@ use mathlib.Core.List.{List, [], _∷_, _++_, map, append-assoc}
 use borrow.Author.Tests.{not-true}
 use Rattle.least.specs.Lists.{nthOr, lastOr, onLast}
 use Rattle.least.proofs.Lists.{and-iff}
+use Rattle.least.proofs.Last.{on-last-snoc}
 use Rattle.text.specs.Bytes.{Line, linesOf}
 use Rattle.refusal.specs.Questions.Answer.{answered}
 use Rattle.refusal.specs.FirstNo.{allYes}
@@ -21,7 +22,6 @@ use Rattle.plan_file.specs.Reading.{isPart, isEnd, allowedHere, partQues
 use Rattle.plan_file.specs.PartLines.{ownLines, linesByPart, linesOfPart}
 use Rattle.plan_file.specs.Statement.{said, AllYes}
 use Rattle.plan_file.proofs.Reading.{yes-first, yes-rest, read-answered-iff}
-use Rattle.plan_file.proofs.SeenLast.{on-last-snoc}
 
 unfoldable pub partWith : FilePart → Record → FilePart
 partWith p r = lastOr noPart (partsAfter (p ∷ []) r)

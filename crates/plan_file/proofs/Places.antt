@@ -6,7 +6,7 @@ use native.Mathlib.Numerals.{add-one}
 use native.Mathlib.Omega.{arith}
 use mathlib.Core.Path.{_≡_, refl, sym, _∙_}
 use mathlib.Core.Bool.{Bool, true, false}
-use mathlib.Core.List.{List, [], _∷_, _++_, map}
+use mathlib.Core.List.{List, [], _∷_, map}
 use borrow.Author.Tests.{ltb-true, ltb-false, lt-ltb, le-ltb, le-leb}
 use lib.Dec.{leb, ltb}
 use lib.ListN.{length, take, drop, getD, length-append, length-map, List·getD-map, drop-of-length-le}
@@ -14,6 +14,7 @@ use lib.Seq.{drop-cons, getD-take, length-take-le}
 use Rattle.least.specs.Lists.{some}
 use Rattle.least.proofs.Lists.{some-pass, some-fail}
 use Rattle.text.specs.Bytes.{same, among, mention}
+use Rattle.text.proofs.Names.{mention-known, mention-new}
 use Rattle.refusal.specs.Limits.{lockLimit}
 use Rattle.scan.specs.declared.Span.{Span}
 use Rattle.scan.specs.Scan.{bytesOf}
@@ -21,11 +22,11 @@ use Rattle.plan_file.specs.declared.Names.{Names}
 use Rattle.plan_file.specs.Entries.{noSpan, namesOf, FineNames, placeOf}
 
 -- the place of a name that comes first, and of one that comes later
-place-first : (name n : List ℕ) (ns : List (List ℕ)) → same name n ≡ true → placeOf name (n ∷ ns) ≡ 0
+pub place-first : (name n : List ℕ) (ns : List (List ℕ)) → same name n ≡ true → placeOf name (n ∷ ns) ≡ 0
 unfolding placeOf
 place-first name n ns e = simp e
 
-place-later : (name n : List ℕ) (ns : List (List ℕ)) → same name n ≡ false → placeOf name (n ∷ ns) ≡ suc (placeOf name ns)
+pub place-later : (name n : List ℕ) (ns : List (List ℕ)) → same name n ≡ false → placeOf name (n ∷ ns) ≡ suc (placeOf name ns)
 unfolding placeOf
 place-later name n ns e = simp e
 
@@ -51,14 +52,6 @@ among-place name (n ∷ ns) = go (same name n) refl (among-place name ns)
     go true e ih = some-pass (same name) n ns e ∙ sym (lt-ltb (placeOf name (n ∷ ns)) (suc (length ns)) (omega (arith, place-first name n ns e)))
     go false e ih = some-fail (same name) n ns e ∙ ih ∙ rw (place-later name n ns e, compare·suc-suc) refl
 
-mention-known : (names : List (List ℕ)) (name : List ℕ) → among name names ≡ true → mention names name ≡ names
-unfolding mention
-mention-known names name e = simp e
-
-mention-new : (names : List (List ℕ)) (name : List ℕ) → among name names ≡ false → mention names name ≡ names ++ (name ∷ [])
-unfolding mention
-mention-new names name e = simp e
-
 -- question 9 of a lock, by the place of its name
 pub mention-limit : (names : List (List ℕ)) (name : List ℕ) → length names ≤ lockLimit → leb (length (mention names name)) lockLimit ≡ ltb (placeOf name names) lockLimit
 mention-limit names name h = go (among name names) refl
@@ -66,11 +59,11 @@ mention-limit names name h = go (among name names) refl
     go : (b : Bool) → among name names ≡ b → leb (length (mention names name)) lockLimit ≡ ltb (placeOf name names) lockLimit
     go true e =
         let p = ltb-true (placeOf name names) (length names) (sym (among-place name names) ∙ e) in
-        rw (mention-known names name e) (le-leb (length names) lockLimit h ∙ sym (lt-ltb (placeOf name names) lockLimit (omega arith)))
+        rw (mention-known name names e) (le-leb (length names) lockLimit h ∙ sym (lt-ltb (placeOf name names) lockLimit (omega arith)))
     go false e =
         let p = ltb-false (placeOf name names) (length names) (sym (among-place name names) ∙ e) in
         let q : placeOf name names ≡ length names = omega (arith, place-most name names) in
-        rw (mention-new names name e, length-append, add-one, q) refl
+        rw (mention-new name names e, length-append, add-one, q) refl
 
 pub names-length : (s : List ℕ) (ns : Names) → FineNames ns → length (namesOf s ns) ≡ ns .count
 unfolding namesOf

@@ -65,12 +65,12 @@ module _ (I : Above → Type 0) (keeps : (n : ℕ) (a : Above) (r : Record) → 
   lines-keep n a [] h all = h
   lines-keep n a (l ∷ ls) h all = lines-keep (suc n) (after a (recordIn l)) ls (line-keeps n a l h (yes-first n a l ls all)) (yes-rest n a l ls all)
 
--- one line is read
-read-next : (n : ℕ) (a : Above) (l : Line) (ls : List Line) → firstNo (questionsAt n a l) ≡ Done → readLines n a (l ∷ ls) ≡ readLines (suc n) (after a (recordIn l)) ls
+-- a line whose answers are yes is passed over, one with a no is refused
+pub read-next : (n : ℕ) (a : Above) (l : Line) (ls : List Line) → firstNo (questionsAt n a l) ≡ Done → readLines n a (l ∷ ls) ≡ readLines (suc n) (after a (recordIn l)) ls
 unfolding readLines
 read-next n a l ls e = rw (e, readLines) refl
 
-read-stop : (n : ℕ) (a : Above) (l : Line) (ls : List Line) (r : Refusal) → firstNo (questionsAt n a l) ≡ Refused r → readLines n a (l ∷ ls) ≡ refused r
+pub read-stop : (n : ℕ) (a : Above) (l : Line) (ls : List Line) (r : Refusal) → firstNo (questionsAt n a l) ≡ Refused r → readLines n a (l ∷ ls) ≡ refused r
 unfolding readLines
 read-stop n a l ls r e = rw (e, readLines) refl
 
@@ -113,11 +113,12 @@ passed n a (l ∷ ls) = go (firstNo (questionsAt n a l)) refl (passed (suc n) (a
     go Done e (inr d) = inr (d .0, stops-later n a l ls (d .0) (done-iff (questionsAt n a l) .0 e) (d .1))
     go (Refused r) e k = inr (r, stops-here n a l ls r e)
 
-read-long : (s : List ℕ) → fileLimit < length s → readFile s ≡ refused FileTooLong
+-- a file that is too long is refused, another is its lines
+pub read-long : (s : List ℕ) → fileLimit < length s → readFile s ≡ refused FileTooLong
 unfolding readFile firstNo whenDone
 read-long s h = simp (lt-leb (length s) fileLimit h)
 
-read-lines : (s : List ℕ) → length s ≤ fileLimit → readFile s ≡ readLines 1 nothingAbove (linesOf s)
+pub read-lines : (s : List ℕ) → length s ≤ fileLimit → readFile s ≡ readLines 1 nothingAbove (linesOf s)
 unfolding readFile firstNo whenDone
 read-lines s h = simp (le-leb (length s) fileLimit h)
 

@@ -6,6 +6,7 @@ use mathlib.Core.Bool.{false}
 use mathlib.Core.List.{List, [], _∷_, _++_, map-append}
 use lib.ListN.{length, length-map}
 use Rattle.least.specs.Lists.{pad, lastOr, onLast}
+use Rattle.least.proofs.Last.{last-snoc, last-on-last, map-on-last}
 use Rattle.text.specs.Bytes.{among, mention}
 use Rattle.text.specs.Decimal.{valueOf}
 use Rattle.scan.specs.declared.Span.{Span}
@@ -16,7 +17,6 @@ use Rattle.plan_file.specs.Above.{FileLock, FileTask, FilePart, Above, n
 use Rattle.plan_file.specs.Reading.{isPart, isEnd, partNames, locksOf}
 use Rattle.plan_file.specs.Entries.{FineNames, FineSeen, noneSeen, namesOf, placeOf, seenPart, seenTask, seenLock, seenEnd}
 use Rattle.plan_file.proofs.Places.{names-length}
-use Rattle.plan_file.proofs.SeenLast.{last-snoc, last-on-last, map-on-last}
 use Rattle.plan_file.proofs.SeenNames.{names-with, fine-with, no-names, fine-none}
 use Rattle.plan_file.proofs.SeenTasks.{taskWith}
 use Rattle.plan_file.proofs.SeenPart.{PartIs, storedUse, part-is-new, part-is-task, part-is-lock}

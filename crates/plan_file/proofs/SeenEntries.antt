@@ -9,8 +9,10 @@ use borrow.Author.Tests.{le-leb}
 use lib.Dec.{leb}
 use lib.ListN.{length}
 use Rattle.least.specs.Lists.{isEmpty, lastOr}
+use Rattle.least.proofs.Last.{last-member}
 use Rattle.text.specs.Bytes.{among}
 use Rattle.text.specs.Decimal.{valueOf}
+use Rattle.text.proofs.Names.{among-none}
 use Rattle.refusal.specs.Questions.{firstNo}
 use Rattle.scan.specs.declared.Span.{Span}
 use Rattle.scan.specs.Scan.{bytesOf}
@@ -25,8 +27,6 @@ use Rattle.plan_file.specs.declared.Entry.the-variants.{Part, Task, Lock
 use Rattle.plan_file.specs.Above.{FileTask, FilePart, Above, noTask, thisPart, thisTask, lockNames}
 use Rattle.plan_file.specs.Reading.{allowedHere, lockQuestions, recordQuestions, locksOf}
 use Rattle.plan_file.specs.Entries.{namesOf, placeOf, useAt, entryIf, partEntry, taskEntry, lockEntry, endEntry, entryOf}
-use Rattle.plan_file.proofs.SeenLast.{last-member}
-use Rattle.plan_file.proofs.SeenNames.{among-none}
 use Rattle.plan_file.proofs.SeenLocks.{known-held, lock-unmentioned}
 use Rattle.plan_file.proofs.SeenTasks.{Unused, padded, padded-use}
 use Rattle.plan_file.proofs.SeenPart.{lastTask, task-count, lock-count}

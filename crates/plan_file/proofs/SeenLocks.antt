@@ -9,13 +9,13 @@ use lib.Dec.{leb}
 use lib.ListN.{length}
 use Rattle.least.specs.Lists.{joined, lastOr, onLast}
 use Rattle.least.proofs.Lists.{some-none, joined-of}
+use Rattle.least.proofs.Last.{last-split, on-last-split}
 use Rattle.text.specs.Bytes.{same, among, mention, distinctAfter}
 use Rattle.text.proofs.Bytes.{same-refl}
+use Rattle.text.proofs.Names.{among-none, among-cons, among-distinct, distinct-snoc, Different, none, distinct-different}
 use Rattle.plan_file.specs.Above.{FileLock, FileTask, FilePart, noTask, lockMentions, lockNames, withLock, withTasks}
 use Rattle.plan_file.specs.Reading.{locksOf}
 use Rattle.plan_file.specs.Numbers.{heldUnder}
-use Rattle.plan_file.proofs.SeenLast.{last-split, on-last-split}
-use Rattle.plan_file.proofs.SeenNames.{among-none, among-cons, among-distinct, distinct-snoc, Different, none, distinct-different}
 
 abbrev pub namesIn : List FileLock → List (List ℕ)
 namesIn ls = map (λ l. l .name) ls

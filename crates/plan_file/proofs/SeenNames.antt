@@ -1,117 +1,25 @@
--- Laws of names: which names are among others after a mention, that different names stay different, and what stands at the place of a name.
+-- Laws of names: what stands at the place of a name, and the names that a struct `Names` holds with one more.
 -- Assumes nothing.
-use Prim.Native.Nat.{ℕ, suc, _≤_, _<_}
+use Prim.Native.Nat.{ℕ, _≤_, _<_}
 use native.Mathlib.Omega.{arith}
 use native.Mathlib.Numerals.{add-one}
 use mathlib.Core.Path.{_≡_, refl, sym, ap, ap₂, _∙_}
-use mathlib.Core.Bool.{Bool, true, false, _||_, or-false, or-assoc, false≢true}
+use mathlib.Core.Bool.{Bool, true, false, false≢true}
 use mathlib.Core.List.{List, [], _∷_, _++_, map, map-append}
 use borrow.Author.Tests.{eq-eqb, ne-eqb, ltb-true, ltb-false}
 use lib.ListN.{length, take, set, getD, length-set, length-append}
 use lib.Seq.{take-suc-set}
-use Rattle.least.specs.Lists.{some}
-use Rattle.least.proofs.Lists.{some-pass, some-fail}
 use Rattle.least.proofs.Pad.{length-pad}
-use Rattle.text.specs.Bytes.{same, among, mention, distinctAfter, distinct}
-use Rattle.text.proofs.Bytes.{same-refl, same-true}
+use Rattle.text.specs.Bytes.{same, among, mention}
+use Rattle.text.proofs.Bytes.{same-true}
+use Rattle.text.proofs.Names.{among-none, among-cons, mention-known, mention-new, Different, none, more}
 use Rattle.scan.specs.declared.Span.{Span}
 use Rattle.scan.specs.Scan.{bytesOf}
 use Rattle.plan_file.specs.declared.Names.{Names}
 use Rattle.plan_file.specs.Entries.{noSpan, noNames, FineNames, namesOf, placeOf, withName, withLockName}
-use Rattle.plan_file.proofs.Places.{place-most, among-place, names-length}
+use Rattle.plan_file.proofs.Places.{place-first, place-later, place-most, among-place, names-length}
 
-pub among-none : (name : List ℕ) → among name [] ≡ false
-unfolding among some
-among-none name = refl
-
-pub among-cons : (name n : List ℕ) (ns : List (List ℕ)) → among name (n ∷ ns) ≡ same name n || among name ns
-unfolding among
-among-cons name n ns = go (same name n) refl
-  where
-    go : (b : Bool) → same name n ≡ b → among name (n ∷ ns) ≡ same name n || among name ns
-    go true e = some-pass (same name) n ns e ∙ simp e
-    go false e = some-fail (same name) n ns e ∙ simp e
-
-pub among-append : (name : List ℕ) (ms ns : List (List ℕ)) → among name (ms ++ ns) ≡ among name ms || among name ns
-among-append name [] ns = simp (among-none name)
-among-append name (m ∷ ms) ns = simp (among-cons name, among-append name ms ns, or-assoc)
-
-pub among-one : (name n : List ℕ) → among name (n ∷ []) ≡ same name n
-among-one name n = simp (among-cons name, among-none name, or-false)
-
-pub mention-known : (name : List ℕ) (ns : List (List ℕ)) → among name ns ≡ true → mention ns name ≡ ns
-unfolding mention
-mention-known name ns e = simp e
-
-pub mention-new : (name : List ℕ) (ns : List (List ℕ)) → among name ns ≡ false → mention ns name ≡ ns ++ (name ∷ [])
-unfolding mention
-mention-new name ns e = simp e
-
--- a name that is not the same in one order is not the same in the other
-pub same-sym : (a b : List ℕ) → same a b ≡ false → same b a ≡ false
-same-sym a b e = go (same b a) refl
-  where
-    go : (t : Bool) → same b a ≡ t → same b a ≡ false
-    go true h = absurd (false≢true (sym e ∙ ap (same a) (same-true b a h) ∙ same-refl a))
-    go false h = h
-
-pub among-mention : (name m : List ℕ) (ns : List (List ℕ)) → among name (mention ns m) ≡ among name ns || same name m
-among-mention name m ns = go (among m ns) refl (same name m) refl
-  where
-    go : (b : Bool) → among m ns ≡ b → (t : Bool) → same name m ≡ t → among name (mention ns m) ≡ among name ns || same name m
-    go false e t h = simp (mention-new m ns e, among-append name, among-one name)
-    go true e false h = simp (mention-known m ns e, h, or-false)
-    go true e true h = simp (mention-known m ns e, same-true name m h, e)
-
-pub among-distinct-after : (name : List ℕ) (ns ms : List (List ℕ)) → among name (distinctAfter ns ms) ≡ among name ns || among name ms
-unfolding distinctAfter
-among-distinct-after name ns [] = simp (among-none name, or-false)
-among-distinct-after name ns (m ∷ ms) = among-distinct-after name (mention ns m) ms ∙ simp (among-mention name, among-cons name, or-assoc)
-
--- among the different names just if among the names
-pub among-distinct : (name : List ℕ) (ms : List (List ℕ)) → among name (distinct ms) ≡ among name ms
-among-distinct name ms = among-distinct-after name [] ms ∙ simp (among-none name)
-
--- one name more is one mention more
-pub distinct-snoc : (ns ms : List (List ℕ)) (m : List ℕ) → distinctAfter ns (ms ++ (m ∷ [])) ≡ mention (distinctAfter ns ms) m
-unfolding distinctAfter
-distinct-snoc ns [] m = refl
-distinct-snoc ns (n ∷ ms) m = distinct-snoc (mention ns n) ms m
-
--- no name is among those behind it
-pub data Different : List (List ℕ) → Type 0 where
-  none : Different []
-  more : {n : List ℕ} {ns : List (List ℕ)} → among n ns ≡ false → Different ns → Different (n ∷ ns)
-
-pub different-snoc : (name : List ℕ) {ns : List (List ℕ)} → Different ns → among name ns ≡ false → Different (ns ++ (name ∷ []))
-different-snoc name none e = more (among-none name) none
-different-snoc name (more {n = n} {ns = ns} h d) e = go (same name n) refl (different-snoc name d)
-  where
-    go : (b : Bool) → same name n ≡ b → (among name ns ≡ false → Different (ns ++ (name ∷ []))) → Different (n ∷ (ns ++ (name ∷ [])))
-    go true k ih = let z : true ≡ false = simp (among-cons name, k) at e in absurd (false≢true (sym z))
-    go false k ih = more (among-append n ns (name ∷ []) ∙ simp (h, among-one n, same-sym name n k)) (ih (simp (among-cons name, k) at e))
-
-pub different-mention : (name : List ℕ) (ns : List (List ℕ)) → Different ns → Different (mention ns name)
-different-mention name ns d = go (among name ns) refl
-  where
-    go : (b : Bool) → among name ns ≡ b → Different (mention ns name)
-    go true e = rw (mention-known name ns e) d
-    go false e = rw (mention-new name ns e) (different-snoc name d e)
-
-pub distinct-different : (ns ms : List (List ℕ)) → Different ns → Different (distinctAfter ns ms)
-unfolding distinctAfter
-distinct-different ns [] d = d
-distinct-different ns (m ∷ ms) d = distinct-different (mention ns m) ms (different-mention m ns d)
-
--- the place of a name
-place-here : (name n : List ℕ) (ns : List (List ℕ)) → same name n ≡ true → placeOf name (n ∷ ns) ≡ 0
-unfolding placeOf
-place-here name n ns e = simp e
-
-place-later : (name n : List ℕ) (ns : List (List ℕ)) → same name n ≡ false → placeOf name (n ∷ ns) ≡ suc (placeOf name ns)
-unfolding placeOf
-place-later name n ns e = simp e
-
+-- the place of a name, by whether it is known
 pub place-known : (name : List ℕ) (ns : List (List ℕ)) → among name ns ≡ true → placeOf name ns < length ns
 place-known name ns e = ltb-true (placeOf name ns) (length ns) (sym (among-place name ns) ∙ e)
 
@@ -132,7 +40,7 @@ get-place g name [] h = sym (h (among-none name))
 get-place g name (n ∷ ns) h = go (same name n) refl (get-place g name ns)
   where
     go : (b : Bool) → same name n ≡ b → ((among name ns ≡ false → g name ≡ 0) → getD (map g ns) (placeOf name ns) 0 ≡ g name) → getD (map g (n ∷ ns)) (placeOf name (n ∷ ns)) 0 ≡ g name
-    go true e ih = rw (place-here name n ns e) (ap g (sym (same-true name n e)))
+    go true e ih = rw (place-first name n ns e) (ap g (sym (same-true name n e)))
     go false e ih = rw (place-later name n ns e) (ih (λ k. h (simp (among-cons name, e, k))))
 
 -- a store there changes what belongs to that name alone
@@ -152,7 +60,7 @@ module _ (g h : List ℕ → ℕ) (name : List ℕ) (others : (n : List ℕ) →
       go : (b : Bool) → same name n ≡ b → (among name ns ≡ true → set (map g ns) (placeOf name ns) (h name) ≡ map h ns) → set (map g (n ∷ ns)) (placeOf name (n ∷ ns)) (h name) ≡ map h (n ∷ ns)
       go true t ih =
           let q : name ≡ n = same-true name n t in
-          rw (place-here name n ns t) (ap₂ _∷_ (ap h q) (map-others ns (ap (λ (x : List ℕ). among x ns) q ∙ k)))
+          rw (place-first name n ns t) (ap₂ _∷_ (ap h q) (map-others ns (ap (λ (x : List ℕ). among x ns) q ∙ k)))
       go false t ih = rw (place-later name n ns t) (ap₂ _∷_ (others n t) (ih (simp (among-cons name, t) at e)))
 
   -- or adds what belongs to a new name

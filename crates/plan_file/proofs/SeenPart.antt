@@ -7,6 +7,7 @@ use mathlib.Core.Bool.{false}
 use mathlib.Core.List.{List, [], _∷_, _++_, map-append, List·Memᴰ·not-nil}
 use lib.ListN.{length, set, length-map}
 use Rattle.least.specs.Lists.{pad, lastOr, onLast, joined}
+use Rattle.least.proofs.Last.{last-snoc, last-on-last, map-on-last, snoc-each}
 use Rattle.text.specs.Bytes.{among, mention, distinctAfter}
 use Rattle.scan.specs.declared.Span.{Span}
 use Rattle.scan.specs.Scan.{bytesOf}
@@ -16,7 +17,6 @@ use Rattle.plan_file.specs.Above.{FileLock, FileTask, FilePart, noTask, 
 use Rattle.plan_file.specs.Reading.{taskNames, locksOf}
 use Rattle.plan_file.specs.Entries.{FineNames, noNames, noTaskRead, namesOf, placeOf, withName, withLockName}
 use Rattle.plan_file.proofs.Places.{names-length}
-use Rattle.plan_file.proofs.SeenLast.{last-snoc, last-on-last, map-on-last, snoc-each}
 use Rattle.plan_file.proofs.SeenNames.{names-with, fine-with, no-names, fine-none, names-lock, fine-lock}
 use Rattle.plan_file.proofs.SeenLocks.{AllHeld, lock-names-different, lock-names-task, lock-names-lock}
 use Rattle.plan_file.proofs.SeenTasks.{taskWith, padded, padded-new, padded-lock}

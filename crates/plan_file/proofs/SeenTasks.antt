@@ -7,15 +7,15 @@ use mathlib.Core.List.{List, [], _∷_, _++_, map, map-append}
 use native.Mathlib.Omega.{arith}
 use lib.ListN.{length, set, length-map, length-append}
 use Rattle.least.specs.Lists.{pad}
-use Rattle.least.proofs.Pad.{set-pad}
+use Rattle.least.proofs.Pad.{set-pad, set-pad-within, getD-pad-fits, pad-filler, pad-fillers}
 use Rattle.text.specs.Bytes.{same, among, mention}
+use Rattle.text.proofs.Names.{Different, not-same-sym, mention-known, mention-new}
 use Rattle.task_set.specs.declared.Task.{Task}
 use Rattle.plan_file.specs.Above.{FileLock, FileTask, withLock}
 use Rattle.plan_file.specs.Reading.{locksOf}
 use Rattle.plan_file.specs.Numbers.{heldUnder}
 use Rattle.plan_file.specs.Entries.{placeOf, useAt}
-use Rattle.plan_file.proofs.SeenPad.{get-pad, set-pad-within, pad-filler, pad-fillers}
-use Rattle.plan_file.proofs.SeenNames.{Different, same-sym, mention-known, mention-new, place-known, place-new, get-place, set-place, set-place-new}
+use Rattle.plan_file.proofs.SeenNames.{place-known, place-new, get-place, set-place, set-place-new}
 use Rattle.plan_file.proofs.SeenLocks.{held-none, held-unknown, held-snoc-other, held-snoc-new}
 
 -- how long a task holds the lock of a name
@@ -40,7 +40,7 @@ module _ (names : List (List ℕ)) (t : FileTask) where
   pub padded-use : (name : List ℕ) → length names ≤ 8 → Unused name names t → useAt (padded names t) (placeOf name names) ≡ heldBy t name
   unfolding padded useAt
   padded-use name h u =
-      get-pad 8 0 (map (heldBy t) names) (placeOf name names) (rw length-map h) ∙ get-place (heldBy t) name names (λ e. held-unknown name (t .locks) (u e))
+      getD-pad-fits 8 0 (map (heldBy t) names) (placeOf name names) (rw length-map h) ∙ get-place (heldBy t) name names (λ e. held-unknown name (t .locks) (u e))
 
   -- one mention more changes nothing for a task that does not use the lock
   pub padded-mention : (name : List ℕ) → Unused name names t → padded (mention names name) t ≡ padded names t
@@ -60,7 +60,7 @@ module _ (names : List (List ℕ)) (t : FileTask) (l : FileLock) (new : among (l
   kept ns = pad 8 0 (map (heldBy (withLock l t)) ns)
 
   others-keep : (n : List ℕ) → same (l .name) n ≡ false → heldBy t n ≡ heldBy (withLock l t) n
-  others-keep n e = sym (held-snoc-other n (t .locks) l (same-sym (l .name) n e))
+  others-keep n e = sym (held-snoc-other n (t .locks) l (not-same-sym (l .name) n e))
 
   it-holds : heldBy (withLock l t) (l .name) ≡ l .held
   it-holds = held-snoc-new (t .locks) l new

@@ -5,15 +5,14 @@ use native.Mathlib.Nat.{add-zero}
 use native.Mathlib.Omega.{arith}
 use mathlib.Core.Path.{_≡_, refl, sym, ap, ap₂, _∙_}
 use mathlib.Core.List.{List, [], _∷_}
-use lib.ListN.{length, take, getD, length-map}
-use lib.Seq.{length-take-le}
+use lib.ListN.{length, getD}
 use Rattle.least.specs.declared.Frac.{Frac}
 use Rattle.task_set.specs.Tasks.{tasksOf}
 use Rattle.candidates.specs.Candidates.{shownCeiling}
 use Rattle.load.specs.declared.Row.{Row}
 use Rattle.scan.specs.Scan.{bytesOf}
-use Rattle.plan_file.specs.declared.Names.{Names}
-use Rattle.plan_file.specs.Entries.{FineNames, namesOf}
+use Rattle.plan_file.specs.Entries.{namesOf}
+use Rattle.plan_file.proofs.Places.{names-length}
 use Rattle.reader.specs.declared.PartRead.{PartRead}
 use Rattle.reader.specs.Reader.{FineCounts}
 use Rattle.task_set.specs.Blocking.{Setting}
@@ -31,10 +30,6 @@ ceilings-same σ l (name ∷ names) (c ∷ cs) h are =
     let first : c ≡ σ l = are 0 (omega arith) ∙ ap σ (add-zero l) in
     let later : ceilingsOf names cs ≡ ceilingsUnder σ (suc l) names = ceilings-same σ (suc l) names cs (omega arith) (λ j k. let e : l + suc j ≡ suc l + j = omega arith in are (suc j) (omega arith) ∙ ap σ e) in
     ap₂ (λ (n : ℕ) (rest : List Ceiling). record { lock = name; number = n } ∷ rest) first later
-
-names-length : (s : List ℕ) (locks : Names) → FineNames locks → length (namesOf s locks) ≡ locks .count
-unfolding namesOf
-names-length s locks f = length-map (take (locks .count) (locks .span)) (bytesOf s) ∙ length-take-le (locks .count) (locks .span) (omega (arith, f .few, f .room))
 
 -- what the writer of a part is handed stands for what is printed of it
 pub share-read : (s : List ℕ) (p : PartRead) (r : Row) (b : Frac) (cs : List ℕ) → FineCounts p → FineLocks (p .locks) cs → ShownAre (p .part) (r .holding) cs

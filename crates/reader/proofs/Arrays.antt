@@ -8,15 +8,14 @@ use lib.ListN.{length, set, take, getD, length-map, length-append}
 use lib.Seq.{set-at}
 use Rattle.least.specs.Lists.{pad, onLast}
 use Rattle.least.proofs.Lists.{map-same}
-use Rattle.least.proofs.Pad.{set-pad}
+use Rattle.least.proofs.Pad.{set-pad, set-pad-within, take-pad}
+use Rattle.least.proofs.Last.{last-split, on-last-split, length-drop-last, drop-last-member}
 use Rattle.text.specs.Bytes.{mention}
 use Rattle.task_set.specs.declared.Task.{Task}
 use Rattle.task_set.specs.Tasks.{withLocks, tasksOf}
 use Rattle.plan_file.specs.Above.{FileLock, FileTask, FilePart, noTask, lockNames, withLock, withTasks}
 use Rattle.plan_file.specs.Numbers.{taskIn, tasksIn}
 use Rattle.plan_file.specs.Entries.{noTaskRead}
-use Rattle.plan_file.proofs.SeenLast.{last-split, on-last-split, length-drop-last, drop-last-member}
-use Rattle.plan_file.proofs.SeenPad.{take-pad, set-pad-within}
 use Rattle.plan_file.proofs.SeenLocks.{lock-unmentioned, lock-names-task, lock-names-lock}
 use Rattle.plan_file.proofs.SeenTasks.{heldBy, taskWith, padded, padded-new, padded-mention}
 use Rattle.plan_file.proofs.SeenPart.{lastTask}
@@ -28,7 +27,7 @@ module _ {A : Type 0} (k : ℕ) (z : A) (xs : List A) (n : ℕ) (count : length 
   change-at : (x y : A) → set (pad k z (xs ++ (x ∷ []))) n y ≡ pad k z (xs ++ (y ∷ []))
   change-at x y = set-pad-within k z (xs ++ (x ∷ [])) n y (rw length-append (omega arith)) ∙ ap (pad k z) (set-at xs x [] y n count)
 
-  pub take-at : n ≤ k → take n (pad k z xs) ≡ xs
+  take-at : n ≤ k → take n (pad k z xs) ≡ xs
   take-at h = rw (← count) (take-pad k z xs (omega arith))
 
 -- what holds at every place holds there behind a store of something of which it holds

@@ -1,18 +1,18 @@
 -- The loop of the reader: what it has still to read behind what it has seen decides the whole file. How it begins, each turn, and each end.
 -- Assumes nothing.
-use Prim.Native.Nat.{ℕ, suc, _+_, _-_, _≤_, _<_}
+use Prim.Native.Nat.{ℕ, _+_, _-_, _≤_, _<_}
 use native.Mathlib.Omega.{arith}
 use mathlib.Core.Path.{_≡_, refl, sym, ap, ap₂, _∙_}
 use mathlib.Core.Bool.{true, false, cond}
 use mathlib.Core.List.{List, [], _∷_, map}
-use borrow.Author.Tests.{le-leb, lt-leb}
 use lib.ListN.{length, take, drop, drop-of-length-le}
 use Rattle.least.specs.Lists.{pad}
 use Rattle.text.specs.Bytes.{Line, linesOf}
 use Rattle.refusal.specs.declared.Refusal.{Refusal}
 use Rattle.refusal.specs.declared.Refusal.the-variants.{FileTooLong, BadLine, Misplaced}
 use Rattle.refusal.specs.declared.Outcome.the-variants.{Done, Refused}
-use Rattle.refusal.specs.Questions.{ask, firstNo, whenDone, Answer}
+use Rattle.refusal.specs.Limits.{fileLimit}
+use Rattle.refusal.specs.Questions.{ask, firstNo, Answer}
 use Rattle.refusal.specs.Questions.Answer.{answered, refused}
 use Rattle.refusal.proofs.Questions.{yes-next, no-answers}
 use Rattle.scan.specs.declared.Span.{Span}
@@ -27,6 +27,7 @@ use Rattle.plan_file.specs.declared.Entry.the-variants.{Refused as RefusedEntry
 use Rattle.plan_file.specs.Above.{FilePart, Above, nothingAbove, after}
 use Rattle.plan_file.specs.Reading.{isEnd, recordQuestions, questionsAt, readLines, readFile}
 use Rattle.plan_file.specs.Entries.{FineSeen, noSpan, noTaskRead, noneSeen, entryOf}
+use Rattle.plan_file.proofs.Reading.{read-next, read-stop, read-long, read-lines}
 use Rattle.plan_file.proofs.SeenAbove.{seen-is-fine, part-count}
 use Rattle.plan_file.proofs.SeenEntered.{AllDone, refused-entered}
 use Rattle.reader.specs.declared.PartRead.{PartRead}
@@ -38,30 +39,16 @@ pub record Reading (s : List ℕ) (c : Cursor) (seen : Seen) (opened : ℕ) (nam
   pub reads : readFile s ≡ readLines (c .line) above (linesOf (drop (c .at) s))
   pub lines-few : c .line ≤ c .at + 1
   pub within : c .at ≤ length s
-  pub small : length s ≤ 32768
+  pub small : length s ≤ fileLimit
   pub stands : Stands s seen opened name period tasks all above
 
--- a file that is not too long is its lines, one that is too long is refused
-file-lines : (s : List ℕ) → length s ≤ 32768 → readFile s ≡ readLines 1 nothingAbove (linesOf s)
-unfolding readFile firstNo whenDone
-file-lines s h = simp (le-leb (length s) 32768 h)
+pub reading-too-long : (s : List ℕ) → fileLimit < length s → refused FileTooLong ≡ numbered (readFile s)
+unfolding numbered
+reading-too-long s h = ap numbered (sym (read-long s h))
 
-pub reading-too-long : (s : List ℕ) → 32768 < length s → refused FileTooLong ≡ numbered (readFile s)
-unfolding readFile firstNo whenDone numbered
-reading-too-long s h = simp (lt-leb (length s) 32768 h)
-
-pub reading-start : (s : List ℕ) → length s ≤ 32768 → Reading s (record { at = 0; line = 1 }) noneSeen 0 noSpan 0 (pad 16 noTaskRead []) (pad 16 noPartRead [])
+pub reading-start : (s : List ℕ) → length s ≤ fileLimit → Reading s (record { at = 0; line = 1 }) noneSeen 0 noSpan 0 (pad 16 noTaskRead []) (pad 16 noPartRead [])
 reading-start s h =
-    record { above = nothingAbove; reads = file-lines s h; lines-few = omega arith; within = omega arith; small = h; stands = stands-start s }
-
--- one line
-line-done : (n : ℕ) (a : Above) (l : Line) (ls : List Line) → firstNo (questionsAt n a l) ≡ Done → readLines n a (l ∷ ls) ≡ readLines (suc n) (after a (recordIn l)) ls
-unfolding readLines
-line-done n a l ls e = rw (e, readLines) refl
-
-line-refused : (n : ℕ) (a : Above) (l : Line) (ls : List Line) (r : Refusal) → firstNo (questionsAt n a l) ≡ Refused r → readLines n a (l ∷ ls) ≡ refused r
-unfolding readLines
-line-refused n a l ls r e = rw (e, readLines) refl
+    record { above = nothingAbove; reads = read-lines s h; lines-few = omega arith; within = omega arith; small = h; stands = stands-start s }
 
 -- a good line has the questions of its record
 good-line : (n : ℕ) (a : Above) (l : Line) → lineIsGood l ≡ true → firstNo (questionsAt n a l) ≡ firstNo (recordQuestions n a (recordIn l))
@@ -80,12 +67,12 @@ module _ (s : List ℕ) (c : Cursor) (r : Shape) (next : Cursor) (at : RecordIs 
   pub record-done : (x : Record) → recordAs s r ≡ x → AllDone s (c .line) a r → readLines (c .line) a (linesOf (drop (c .at) s)) ≡ readLines (next .line) (after a x) (linesOf (drop (next .at) s))
   record-done x e d =
       ap (readLines (c .line) a) (at .lines)
-      ∙ line-done (c .line) a (at .line) (linesOf (drop (next .at) s)) (asked ∙ d)
+      ∙ read-next (c .line) a (at .line) (linesOf (drop (next .at) s)) (asked ∙ d)
       ∙ ap₂ (λ (n : ℕ) (y : Record). readLines n (after a y) (linesOf (drop (next .at) s))) (sym (at .numbered)) (at .is ∙ e)
 
   pub record-refused : (x : Refusal) → firstNo (recordQuestions (c .line) a (recordAs s r)) ≡ Refused x → readLines (c .line) a (linesOf (drop (c .at) s)) ≡ refused x
   record-refused x d =
-      ap (readLines (c .line) a) (at .lines) ∙ line-refused (c .line) a (at .line) (linesOf (drop (next .at) s)) x (asked ∙ d)
+      ap (readLines (c .line) a) (at .lines) ∙ read-stop (c .line) a (at .line) (linesOf (drop (next .at) s)) x (asked ∙ d)
 
 -- each turn makes what is left shorter
 pub turn-shortens : (s : List ℕ) (c : Cursor) (r : Shape) (next : Cursor) → RecordIs s c r next → length s - next .at < length s - c .at
@@ -117,7 +104,7 @@ module _ (s : List ℕ) (c : Cursor) (seen : Seen) (opened : ℕ) (name : Span) 
   pub reading-broken : BrokenIs s c → refused (BadLine (c .line)) ≡ numbered (readFile s)
   reading-broken at =
       ends-refused (BadLine (c .line))
-      (ap (readLines (c .line) a) (at .lines) ∙ line-refused (c .line) a (at .line) (at .behind) (BadLine (c .line)) (bad-line (c .line) a (at .line) (at .bad)))
+      (ap (readLines (c .line) a) (at .lines) ∙ read-stop (c .line) a (at .line) (at .behind) (BadLine (c .line)) (bad-line (c .line) a (at .line) (at .bad)))
 
   -- no line is left
   none-left : length s ≤ c .at → readLines (c .line) a (linesOf (drop (c .at) s)) ≡ cond (isEnd (a .directly)) (answered (a .parts)) (refused (Misplaced (c .line)))

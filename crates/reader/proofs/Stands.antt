@@ -9,7 +9,8 @@ use mathlib.Core.List.{List, [], _∷_, _++_, map, map-append, dropLast}
 use lib.ListN.{length, take, set, getD, length-set, length-append}
 use lib.Seq.{take-suc-set, take-set-le}
 use Rattle.least.specs.Lists.{pad, lastOr, onLast}
-use Rattle.least.proofs.Pad.{length-pad}
+use Rattle.least.proofs.Pad.{length-pad, getD-pad-fits}
+use Rattle.least.proofs.Last.{last-split, drop-last-snoc, drop-last-on-last, length-on-last}
 use Rattle.text.specs.Bytes.{among, mention}
 use Rattle.text.specs.Decimal.{valueOf}
 use Rattle.scan.specs.declared.Span.{Span}
@@ -22,9 +23,7 @@ use Rattle.plan_file.specs.Above.{FileLock, FileTask, FilePart, Above, noPart, 
 use Rattle.plan_file.specs.Numbers.{tasksIn}
 use Rattle.plan_file.specs.Reading.{isEnd, locksOf}
 use Rattle.plan_file.specs.Entries.{noSpan, noTaskRead, noneSeen, namesOf, placeOf, seenPart, seenTask, seenLock, seenEnd}
-use Rattle.plan_file.proofs.SeenLast.{last-split, drop-last-snoc, drop-last-on-last, length-on-last}
 use Rattle.plan_file.proofs.SeenNames.{fine-none}
-use Rattle.plan_file.proofs.SeenPad.{get-pad}
 use Rattle.plan_file.proofs.SeenTasks.{taskWith}
 use Rattle.plan_file.proofs.SeenPart.{storedUse, task-count, lock-count, task-after-lock}
 use Rattle.plan_file.proofs.SeenAbove.{SeenIs, part-count, taskOf, lockOf, this-part-part, this-part-task, this-part-lock, seen-is-start, seen-is-part, seen-is-task, seen-is-lock, seen-is-end}
@@ -59,7 +58,7 @@ stands-start s = record {
   open-is = refl;
   room = length-pad 16 noPartRead [];
   closed = refl;
-  counts = λ k. rw (get-pad 16 noPartRead [] k (omega arith)) none-counted;
+  counts = λ k. rw (getD-pad-fits 16 noPartRead [] k (omega arith)) none-counted;
   complete = λ e. absurd (false≢true e);
 }
 
@@ -109,7 +108,7 @@ module _ (s : List ℕ) (seen : Seen) (opened : ℕ) (name : Span) (period : ℕ
       ∙ ap (map numbersOf) (sym (last-split noPart (a .parts) h)))
 
   -- with the last part stored, all parts are there
-  pub all-read : map (partOf s) (take (length (a .parts)) (set all opened lastRead)) ≡ map numbersOf (a .parts)
+  all-read : map (partOf s) (take (length (a .parts)) (set all opened lastRead)) ≡ map numbersOf (a .parts)
   all-read = go (a .parts) refl
     where
       go : (ps : List FilePart) → a .parts ≡ ps → map (partOf s) (take (length (a .parts)) (set all opened lastRead)) ≡ map numbersOf (a .parts)
@@ -128,13 +127,17 @@ module _ (s : List ℕ) (seen : Seen) (opened : ℕ) (name : Span) (period : ℕ
     complete = λ e. absurd (false≢true e);
   }
 
-  -- a line that changes the last part alone
-  module _ (f : FilePart → FilePart) where
-    open-stays : opened ≡ length (onLast f (a .parts)) - 1
-    open-stays = rw (length-on-last f (a .parts)) (stands .open-is)
-
-    closed-stays : map (partOf s) (take opened all) ≡ map numbersOf (dropLast (onLast f (a .parts)))
-    closed-stays = rw (drop-last-on-last f (a .parts)) (stands .closed)
+  -- a line that changes the last part alone, and is not `end`, leaves the others
+  others-stay : (f : FilePart → FilePart) (b : Above) → b .parts ≡ onLast f (a .parts) → isEnd (b .directly) ≡ false → {seen′ : Seen} {tasks′ : List Task} → SeenIs s seen′ b → Holds s name period tasks′ (thisPart b) → Stands s seen′ opened name period tasks′ all b
+  others-stay f b changed not-end is holds = record {
+    seen-is = is;
+    last = holds;
+    open-is = rw (changed, length-on-last f (a .parts)) (stands .open-is);
+    room = stands .room;
+    closed = rw (changed, drop-last-on-last f (a .parts)) (stands .closed);
+    counts = stands .counts;
+    complete = λ e. absurd (false≢true (sym not-end ∙ e));
+  }
 
   holds-task : (t : FileTask) → seen .tasks .count < 16 → t .locks ≡ [] → Holds s name period (set tasks (seen .tasks .count) (taskWith t (pad 8 0 []))) (withTasks (λ ts. ts ++ (t ∷ [])) (thisPart a))
   holds-task t h e = record {
@@ -147,16 +150,8 @@ module _ (s : List ℕ) (seen : Seen) (opened : ℕ) (name : Span) (period : ℕ
   unfolding isEnd partsAfter
   stands-task nm T C D p h =
       let t = taskOf (bytesOf s nm) T C D in
-      let f = withTasks (λ ts. ts ++ (t ∷ [])) in
-      record {
-        seen-is = seen-is-task s seen a (stands .seen-is) nm T C D p h;
-        last = rw (this-part-task a (bytesOf s nm) T C D p) (holds-task t h refl);
-        open-is = open-stays f;
-        room = stands .room;
-        closed = closed-stays f;
-        counts = stands .counts;
-        complete = λ e. absurd (false≢true e);
-      }
+      others-stay (withTasks (λ ts. ts ++ (t ∷ []))) (after a (task (bytesOf s nm) T C D)) refl refl (seen-is-task s seen a (stands .seen-is) nm T C D p h)
+      (rw (this-part-task a (bytesOf s nm) T C D p) (holds-task t h refl))
 
   module _ (nm : Span) (c : List ℕ) (some : 1 ≤ length (thisPart a .tasks)) (new : among (bytesOf s nm) (locksOf (thisTask a)) ≡ false) (few : length (mention (lockNames (thisPart a)) (bytesOf s nm)) ≤ 8) where
     abbrev at : ℕ
@@ -177,16 +172,8 @@ module _ (s : List ℕ) (seen : Seen) (opened : ℕ) (name : Span) (period : ℕ
     pub stands-lock : 1 ≤ length (a .parts) → 1 ≤ valueOf c → let t = storedUse (seen .last) at (valueOf c) in Stands s (seenLock seen nm at t) opened name period (set tasks (seen .tasks .count - 1) t) all (after a (lock (bytesOf s nm) c))
     unfolding isEnd partsAfter
     stands-lock p h =
-        let f = withTasks (onLast (withLock it)) in
-        record {
-          seen-is = seen-is-lock s seen a (stands .seen-is) nm c p some h new few;
-          last = rw (this-part-lock a (bytesOf s nm) c p) holds-lock;
-          open-is = open-stays f;
-          room = stands .room;
-          closed = closed-stays f;
-          counts = stands .counts;
-          complete = λ e. absurd (false≢true e);
-        }
+        others-stay (withTasks (onLast (withLock it))) (after a (lock (bytesOf s nm) c)) refl refl (seen-is-lock s seen a (stands .seen-is) nm c p some h new few)
+        (rw (this-part-lock a (bytesOf s nm) c p) holds-lock)
 
   pub stands-end : Stands s (seenEnd seen) opened name period tasks (set all opened lastRead) (after a end)
   unfolding partsAfter
