@@ -69,13 +69,11 @@ kindOf (RefusedEntry r) = 4
 -- the record that was entered
 module _ (s : List ℕ) (seen : Seen) where
   abbrev IsPart : Shape → Span → ℕ → Type 0
-  IsPart r nm v = (P : List ℕ) × (recordAs s r ≡ part (bytesOf s nm) P) × (v ≡ valueOf P)
+  IsPart r nm v = (P : Span) × (r ≡ PartShape nm P) × (v ≡ valueOf (bytesOf s P))
 
   part-record : (r : Shape) (nm : Span) (v : ℕ) → entered s seen r ≡ Part nm v → IsPart r nm v
-  unfolding entered recordAs kindOf
-  part-record (PartShape name P) nm v e =
-      let q : name ≡ nm = cc in
-      (bytesOf s P, ap (λ (x : Span). part (bytesOf s x) (bytesOf s P)) q, cc)
+  unfolding entered kindOf
+  part-record (PartShape name P) nm v e = let q : name ≡ nm = cc in (P, ap (λ (x : Span). PartShape x P) q, cc)
   part-record (TaskShape name T C D) nm v e = absurd (omega (arith, ap kindOf e))
   part-record (LockShape name c) nm v e = absurd (omega (arith, ap kindOf e))
   part-record EndShape nm v e = absurd (omega (arith, ap kindOf e))
@@ -131,9 +129,10 @@ abbrev pub AllDone : List ℕ → ℕ → Above → Shape → Type 0
 AllDone s n a r = firstNo (recordQuestions n a (recordAs s r)) ≡ Done
 
 pub record PartEntered (s : List ℕ) (seen : Seen) (n : ℕ) (a : Above) (r : Shape) (nm : Span) (v : ℕ) : Type 0 where
-  pub P : List ℕ
-  pub is : recordAs s r ≡ part (bytesOf s nm) P
-  pub value : v ≡ valueOf P
+  pub period : Span
+  pub shape : r ≡ PartShape nm period
+  pub is : recordAs s r ≡ part (bytesOf s nm) (bytesOf s period)
+  pub value : v ≡ valueOf (bytesOf s period)
   pub done : AllDone s n a r
   pub room : seen .parts .count < 16
 
@@ -174,13 +173,14 @@ module _ (s : List ℕ) (seen : Seen) (a : Above) (seen-is : SeenIs s seen a) (n
   done-entered x e h = if-done _ (entered s seen r) x (sym (entry-is s seen a seen-is n r) ∙ e) h
 
   pub part-entered : (nm : Span) (v : ℕ) → entryOf s n seen r ≡ Part nm v → PartEntered s seen n a r nm v
-  unfolding isRefused recordQuestions
+  unfolding isRefused recordQuestions recordAs
   part-entered nm v e =
       let d = done-entered (Part nm v) e refl in
       let k = part-record s seen r nm v (d .1) in
-      let f : firstNo (recordQuestions n a (part (bytesOf s nm) (k .0))) ≡ Done = subst (λ (x : Record). firstNo (recordQuestions n a x) ≡ Done) (k .1) (d .0) in
-      let g = part-done n _ (partNames (a .parts)) (bytesOf s nm) (k .0) f in
-      record { P = k .0; is = k .1; value = k .2; done = d .0; room = omega (arith, g .1, length-map (a .parts) (λ p. p .name), part-count s seen a seen-is) }
+      let is : recordAs s r ≡ part (bytesOf s nm) (bytesOf s (k .0)) = ap (recordAs s) (k .1) in
+      let f : firstNo (recordQuestions n a (part (bytesOf s nm) (bytesOf s (k .0)))) ≡ Done = subst (λ (x : Record). firstNo (recordQuestions n a x) ≡ Done) is (d .0) in
+      let g = part-done n _ (partNames (a .parts)) (bytesOf s nm) (bytesOf s (k .0)) f in
+      record { period = k .0; shape = k .1; is = is; value = k .2; done = d .0; room = omega (arith, g .1, length-map (a .parts) (λ p. p .name), part-count s seen a seen-is) }
 
   pub task-entered : (nm : Span) (u v w : ℕ) → entryOf s n seen r ≡ Task nm u v w → TaskEntered s seen n a r nm u v w
   unfolding isRefused recordQuestions allowedHere

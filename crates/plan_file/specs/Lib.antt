@@ -1,5 +1,6 @@
 pub mod Above
 pub mod Reading
+pub mod Stretches
 pub mod Statement
 pub mod Numbers
 pub mod PartLines

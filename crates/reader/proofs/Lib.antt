@@ -1,5 +1,6 @@
 pub mod Arrays
 pub mod Stands
+pub mod Spans
 pub mod Reading
 pub mod Turns
 pub mod Handed

@@ -2,7 +2,7 @@
 -- Assumes nothing.
 use Prim.Native.Nat.{ℕ, _+_, _-_, _≤_, _<_}
 use native.Mathlib.Omega.{arith}
-use mathlib.Core.Path.{_≡_, refl, sym, ap, ap₂, _∙_}
+use mathlib.Core.Path.{_≡_, refl, sym, ap, ap₂, _∙_, subst}
 use mathlib.Core.Bool.{true, false, cond}
 use mathlib.Core.List.{List, [], _∷_, map}
 use lib.ListN.{length, take, drop, drop-of-length-le}
@@ -27,12 +27,14 @@ use Rattle.plan_file.specs.declared.Entry.the-variants.{Refused as RefusedEntry
 use Rattle.plan_file.specs.Above.{FilePart, Above, nothingAbove, after}
 use Rattle.plan_file.specs.Reading.{isEnd, recordQuestions, questionsAt, readLines, readFile}
 use Rattle.plan_file.specs.Entries.{FineSeen, noSpan, noTaskRead, noneSeen, entryOf}
+use Rattle.plan_file.specs.Stretches.{nameSpans}
 use Rattle.plan_file.proofs.Reading.{read-next, read-stop, read-long, read-lines}
 use Rattle.plan_file.proofs.SeenAbove.{seen-is-fine, part-count}
 use Rattle.plan_file.proofs.SeenEntered.{AllDone, refused-entered}
 use Rattle.reader.specs.declared.PartRead.{PartRead}
 use Rattle.reader.specs.Reader.{numbered, partOf, answerOf, fileOf, noPartRead, refusedFile}
 use Rattle.reader.proofs.Stands.{Stands, stands-start}
+use Rattle.reader.proofs.Spans.{Spanned, spanned-start, spanned-all}
 
 pub record Reading (s : List ℕ) (c : Cursor) (seen : Seen) (opened : ℕ) (name : Span) (period : ℕ) (tasks : List Task) (all : List PartRead) : Type 0 where
   pub above : Above
@@ -41,6 +43,7 @@ pub record Reading (s : List ℕ) (c : Cursor) (seen : Seen) (opened : ℕ) (nam
   pub within : c .at ≤ length s
   pub small : length s ≤ fileLimit
   pub stands : Stands s seen opened name period tasks all above
+  pub spanned : Spanned s (c .at) (seen .parts .count) opened name all (seen .ended)
 
 pub reading-too-long : (s : List ℕ) → fileLimit < length s → refused FileTooLong ≡ numbered (readFile s)
 unfolding numbered
@@ -48,7 +51,7 @@ reading-too-long s h = ap numbered (sym (read-long s h))
 
 pub reading-start : (s : List ℕ) → length s ≤ fileLimit → Reading s (record { at = 0; line = 1 }) noneSeen 0 noSpan 0 (pad 16 noTaskRead []) (pad 16 noPartRead [])
 reading-start s h =
-    record { above = nothingAbove; reads = read-lines s h; lines-few = omega arith; within = omega arith; small = h; stands = stands-start s }
+    record { above = nothingAbove; reads = read-lines s h; lines-few = omega arith; within = omega arith; small = h; stands = stands-start s; spanned = spanned-start s (pad 16 noPartRead []) }
 
 -- a good line has the questions of its record
 good-line : (n : ℕ) (a : Above) (l : Line) → lineIsGood l ≡ true → firstNo (questionsAt n a l) ≡ firstNo (recordQuestions n a (recordIn l))
@@ -123,3 +126,7 @@ module _ (s : List ℕ) (c : Cursor) (seen : Seen) (opened : ℕ) (name : Span) 
       ap (λ (n : ℕ). answered (map (partOf s) (take n all))) (sym (part-count s seen a (reading .stands .seen-is)))
       ∙ ap answered (reading .stands .complete at-end)
       ∙ ends (answered (a .parts)) (none-left h ∙ simp at-end)
+
+  -- where the names stand
+  pub reading-spans : length s ≤ c .at → seen .ended ≡ true → map (λ p. p .name) (take (seen .parts .count) all) ≡ nameSpans s
+  reading-spans h e = spanned-all s (c .at) (seen .parts .count) opened name all (subst (Spanned s (c .at) (seen .parts .count) opened name all) e (reading .spanned)) h

@@ -4,7 +4,8 @@
 --   partOf s r  == that of the struct `PartRead`, whose names are stretches of the file s
 --   fileOf s f  == what the struct `PlanFile` says: the parts that it holds, or the refusal
 --   FineCounts r == the counts of the struct `PartRead` are within the places that there are, and count the same locks
---   ReadIs s f  == f is what the file s says: its parts, or the refusal of the first question among 1 to 9 with a no; and its counts are fine
+--   ReadIs s f  == f is what the file s says: its parts, or the refusal of the first question among 1 to 9 with a no; its counts are fine, and each part's name
+--                  is the stretch of its `part` line
 -- The one place where counts and unused places of these structs occur.
 -- Assumes nothing.
 use Prim.Native.Nat.{ℕ, _≤_, _<_}
@@ -24,6 +25,7 @@ use Rattle.task_set.specs.Tasks.{tasksOf}
 use Rattle.plan_file.specs.declared.Names.{Names}
 use Rattle.plan_file.specs.Above.{FilePart, lockNames}
 use Rattle.plan_file.specs.Reading.{readFile}
+use Rattle.plan_file.specs.Stretches.{nameSpans}
 use Rattle.plan_file.specs.Numbers.{tasksIn}
 use Rattle.plan_file.specs.Entries.{FineNames, noSpan, noNames, noTaskRead, namesOf}
 use Rattle.reader.specs.declared.PartRead.{PartRead}
@@ -75,6 +77,7 @@ pub record ReadIs (s : List ℕ) (f : PlanFile) : Type 0 where
   pub few : f .count ≤ 16
   pub room : length (f .parts) ≡ 16
   pub counts : (k : ℕ) → k < f .count → FineCounts (getD (f .parts) k noPartRead)
+  pub spans : f .outcome ≡ Done → map (λ p. p .name) (take (f .count) (f .parts)) ≡ nameSpans s
 
 -- what the code makes: a refusal, a task that holds the lock at place j
 unfoldable pub refusedFile : Refusal → PlanFile

@@ -17,6 +17,7 @@ use Rattle.records.specs.declared.Cursor.{Cursor}
 use Rattle.records.specs.Shapes.{firstField, wordOf, shapeOf}
 use Rattle.records.specs.Cursor.{recordAs, RecordIs, BrokenIs}
 use Rattle.records.proofs.Records.{record-line}
+use Rattle.records.proofs.Names.{name-stands}
 
 module _ (s : List ℕ) (c : Cursor) (l : Scanned) (is : l ≡ lineAt s (c .at)) where
   good-of : {b : Bool} → l .good ≡ b → lineIsGood (theLine s (c .at)) ≡ b
@@ -41,8 +42,9 @@ module _ (s : List ℕ) (c : Cursor) (l : Scanned) (is : l ≡ lineAt s (c .at))
         lines = rw (scanned g) (lines-at s (c .at) h);
         good = good-of g;
         is = record-line s (c .at) ∙ ap (recordAs s) (rw (scanned g) at (sym e));
+        named = λ name P h. name-stands s (c .at) l (tabs-within g) name P (sym e ∙ h);
         numbered = add-one (c .line);
-        onward = rw (scanned g) (omega arith);
+        behind = rw (scanned g) (omega arith);
         within = rw (scanned g) (omega (arith, good-known g .within));
       }
 

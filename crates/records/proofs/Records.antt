@@ -22,14 +22,14 @@ use Rattle.records.specs.Cursor.{recordAs}
 use Rattle.records.proofs.Fields.{pieces, line-pieces}
 
 -- a field that is none of the four words
-record NoneOf (w : List ℕ) : Type 0 where
+pub record NoneOf (w : List ℕ) : Type 0 where
   pub part : same w (bytes "part") ≡ false
   pub task : same w (bytes "task") ≡ false
   pub lock : same w (bytes "lock") ≡ false
   pub end : same w (bytes "end") ≡ false
 
 -- what holds of each of the four words, and of a field that is none of them, holds of every field
-by-word : (P : List ℕ → Word → Type 0) → P (bytes "part") PartWord → P (bytes "task") TaskWord → P (bytes "lock") LockWord → P (bytes "end") EndWord → ((w : List ℕ) → NoneOf w → P w NoWord)
+pub by-word : (P : List ℕ → Word → Type 0) → P (bytes "part") PartWord → P (bytes "task") TaskWord → P (bytes "lock") LockWord → P (bytes "end") EndWord → ((w : List ℕ) → NoneOf w → P w NoWord)
     → (w : List ℕ) → P w (wordOf w)
 unfolding wordOf
 by-word P p t l e n w = go (same w (bytes "part")) (same w (bytes "task")) (same w (bytes "lock")) (same w (bytes "end")) refl refl refl refl

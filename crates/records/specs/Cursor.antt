@@ -1,13 +1,15 @@
 -- What the cursor hands back, in terms of the lines of the file.
 --   recordAs s r  == the record whose fields are these stretches of the file s
+--   nameSpan at name == where the name of a record stands whose line begins at `at`: behind a word of four letters and a tab
 --   NextIs s c n  == n is what stands at the cursor c
 -- Assumes nothing.
-use Prim.Native.Nat.{ℕ, suc, _≤_, _<_}
+use Prim.Native.Nat.{ℕ, suc, _+_, _≤_, _<_}
 use mathlib.Core.Path.{_≡_}
 use mathlib.Core.Bool.{true, false}
 use mathlib.Core.List.{List, _∷_}
 use lib.ListN.{length, drop}
 use Rattle.text.specs.Bytes.{Line, linesOf}
+use Rattle.scan.specs.declared.Span.{Span}
 use Rattle.scan.specs.Line.{lineIsGood}
 use Rattle.scan.specs.Scan.{bytesOf}
 use Rattle.records.specs.declared.Shape.{Shape}
@@ -25,14 +27,18 @@ recordAs s (Lock name c) = lock (bytesOf s name) (bytesOf s c)
 recordAs s End = end
 recordAs s Unknown = noRecord
 
+abbrev pub nameSpan : ℕ → List ℕ → Span
+nameSpan at name = record { start = at + 5; len = length name }
+
 -- a good line, its record, and the cursor at the line behind it
 pub record RecordIs (s : List ℕ) (c : Cursor) (r : Shape) (next : Cursor) : Type 0 where
   pub line : Line
   pub lines : linesOf (drop (c .at) s) ≡ line ∷ linesOf (drop (next .at) s)
   pub good : lineIsGood line ≡ true
   pub is : recordIn line ≡ recordAs s r
+  pub named : (name P : Span) → r ≡ Part name P → name ≡ nameSpan (c .at) (bytesOf s name)
   pub numbered : next .line ≡ suc (c .line)
-  pub onward : c .at < next .at
+  pub behind : next .at ≡ c .at + suc (length (line .body))
   pub within : next .at ≤ length s
 
 -- a line with a no to question 2

@@ -18,7 +18,7 @@ use Rattle.plan_file.specs.Reading.{readFile}
 use Rattle.plan_file.specs.Entries.{noSpan, noTaskRead, noneSeen, entryOf}
 use Rattle.reader.specs.declared.PlanFile.{PlanFile}
 use Rattle.reader.specs.Reader.{refusedFile, noPartRead, numbered, ReadIs}
-use Rattle.reader.proofs.Reading.{Reading, reading-start, reading-too-long, refused-file, turn-shortens, reading-fine, reading-refused, reading-broken, reading-over, reading-done}
+use Rattle.reader.proofs.Reading.{Reading, reading-start, reading-too-long, refused-file, turn-shortens, reading-fine, reading-refused, reading-broken, reading-over, reading-done, reading-spans}
 use Rattle.reader.proofs.Turns.{part-room, name-room, task-room, lock-room, reading-part, reading-task, reading-lock, reading-end}
 use Rattle.reader.proofs.read_file.Statement.{statement}
 use Rattle.reader.proofs.read_file.Tie as tie
@@ -32,7 +32,7 @@ abbrev μ-loop : tie.MeasureT-loop
 -- a refusal that the file has
 refused-is : (s : List ℕ) (x : Refusal) (f : PlanFile) → f ≡ refusedFile x → refused x ≡ numbered (readFile s) → ReadIs s f
 unfolding refusedFile
-refused-is s x f e h = record { value = rw e (refused-file s x ∙ h); few = rw e (omega arith); room = rw e (length-pad 16 noPartRead []); counts = rw e (λ k h. absurd (omega arith)) }
+refused-is s x f e h = record { value = rw e (refused-file s x ∙ h); few = rw e (omega arith); room = rw e (length-pad 16 noPartRead []); counts = rw e (λ k h. absurd (omega arith)); spans = rw e (λ h. absurd (let z : _≡_ {A = ℕ} 0 1 = cc in omega arith)) }
 
 abbrev file : tie.At-loop Inv-loop μ-loop → List ℕ
 file l = l .before .before .before .before .before .before .before .args .s .now
@@ -104,6 +104,7 @@ returns-2 c =
       few = reading-fine (file l) (l .loop .c) (l .loop .seen) (l .loop .«open») (l .loop .name) (l .loop .period) (l .loop .tasks) (l .loop .all) (l .loop .inv) .parts .few;
       room = l .loop .inv .stands .room;
       counts = λ k h. l .loop .inv .stands .counts k;
+      spans = λ d. reading-spans (file l) (l .loop .c) (l .loop .seen) (l .loop .«open») (l .loop .name) (l .loop .period) (l .loop .tasks) (l .loop .all) (l .loop .inv) (rw (c .before .enum-told .given .1) at (c .before .before .before .next .ensures)) (c .if2 .taken);
     }
 
 refused-file-requires-2 : tie.Need-refused-file-requires-2 Inv-loop μ-loop
