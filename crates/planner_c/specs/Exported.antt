@@ -4,15 +4,14 @@ use Prim.Native.Nat.{ℕ}
 use mathlib.Core.Path.{_≡_}
 use mathlib.Core.List.{List}
 use lib.ListN.{take, drop}
-use Rattle.refusal.specs.declared.Refusal.{Refusal}
-use Rattle.refusal.specs.declared.Outcome.the-variants.{Refused}
 use Rattle.refusal.specs.Number.{numberOf, placeOf}
-use Rattle.refusal.specs.Questions.{outcomeOf}
 use Rattle.load.specs.declared.Weighed.{Weighed}
 use Rattle.answers.specs.declared.Planned.{Planned}
 use Rattle.answers.specs.declared.CandidateList.{CandidateList}
 use Rattle.answers.specs.declared.Supplied.{Supplied}
 use Rattle.answers.specs.Answers.{nameOf, nameBytes}
+use Rattle.inquiries.specs.declared.NameStretch.{NameStretch}
+use Rattle.inquiries.specs.Stretch.{nameStretch}
 use Rattle.planner_c.specs.declared.PlanAnswer.{PlanAnswer}
 use Rattle.planner_c.specs.declared.CandidatesAnswer.{CandidatesAnswer}
 use Rattle.planner_c.specs.declared.NameAnswer.{NameAnswer}
@@ -26,11 +25,13 @@ unfoldable pub candidatesExported : CandidateList → CandidatesAnswer
 candidatesExported a = record { number = numberOf (a .outcome); place = placeOf (a .outcome); kept = a .kept }
 
 -- a name is where it stands in the file: no bytes at 0 on refusal
+unfoldable pub nameExported : NameStretch → NameAnswer
+nameExported a = record { number = numberOf (a .outcome); place = placeOf (a .outcome); start = a .span .start; length = a .span .len }
+
+-- and there stand its bytes
 pub record NameExported (s : List ℕ) (k : ℕ) (r : NameAnswer) : Type 0 where
-  pub number : r .number ≡ numberOf (outcomeOf (nameOf s k))
-  pub place : r .place ≡ placeOf (outcomeOf (nameOf s k))
+  pub is : r ≡ nameExported (nameStretch s k)
   pub bytes : take (r .length) (drop (r .start) s) ≡ nameBytes (nameOf s k)
-  pub refusal : (x : Refusal) → outcomeOf (nameOf s k) ≡ Refused x → (r .start ≡ 0) × (r .length ≡ 0)
 
 unfoldable pub weighExported : Weighed → WeighAnswer
 weighExported a = record { number = numberOf (a .outcome); place = placeOf (a .outcome); bounds = a .bounds; load = a .load; row = a .row }

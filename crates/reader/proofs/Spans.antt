@@ -76,10 +76,10 @@ module _ (s : List ℕ) (c : Cursor) (r : Shape) (next : Cursor) (at : RecordIs 
           let here : spanOn (c .at) (recordAs s r) ≡ nm ∷ [] = ap (λ (x : Shape). spanOn (c .at) (recordAs s x)) shape ∙ ap (λ (x : Span). x ∷ []) (sym (at .named nm P shape)) in
           record {
             spans =
-              before .spans ∙ ap (λ (xs : List Span). spansRead n opened name all ++ xs) (line-spans ∙ ap (λ (xs : List Span). xs ++ rest) here)
-              ∙ sym (append-assoc (spansRead n opened name all) (nm ∷ []) rest)
-              ∙ ap (λ (xs : List Span). (xs ++ (nm ∷ [])) ++ rest) (sym (stored n opened name all p open-is room is))
-              ∙ ap (λ (m : ℕ). spansRead m n nm (set all opened p) ++ rest) (sym (add-one n));
+                before .spans ∙ ap (λ (xs : List Span). spansRead n opened name all ++ xs) (line-spans ∙ ap (λ (xs : List Span). xs ++ rest) here)
+                ∙ sym (append-assoc (spansRead n opened name all) (nm ∷ []) rest)
+                ∙ ap (λ (xs : List Span). (xs ++ (nm ∷ [])) ++ rest) (sym (stored n opened name all p open-is room is))
+                ∙ ap (λ (m : ℕ). spansRead m n nm (set all opened p) ++ rest) (sym (add-one n));
             complete = λ f. absurd (false≢true f);
           }
 

@@ -5,7 +5,7 @@ use native.Mathlib.Omega.{arith}
 use borrow.Author.Needs.{needs}
 use Rattle.reader.proofs.Handed.{handed-refused, handed-done}
 use Rattle.inquiries.specs.Stretch.{StretchIs}
-use Rattle.inquiries.proofs.Named.{name-refused, name-given, name-not-given, name-is, number-range, stretch-refused, stretch-given}
+use Rattle.inquiries.proofs.Named.{name-refused, name-given, name-not-given, name-is, number-range, span-is, stretch-refused, stretch-given}
 use Rattle.inquiries.proofs.name_stretch.Statement.{statement}
 use Rattle.inquiries.proofs.name_stretch.Tie as tie
 
@@ -41,6 +41,7 @@ returns c =
     let h = handed-done (a .file .now) (f .result) (f .ensures) (c .before .before .before .before .enum-told .given .1) in
     let most = number-range (a .part) (f .result .count) given in
     stretch-given (a .file .now) (a .part) _ _ (name-given (a .file .now) (a .part) (f .result) h given) (name-is (a .file .now) (a .part) (f .result) h _ (most .0) (most .1))
+    (span-is (a .file .now) (f .result) (f .ensures) (c .before .before .before .before .enum-told .given .1) (a .part) _ (most .0) (most .1))
 
 no-name-requires-2 : tie.Need-no-name-requires-2
 no-name-requires-2 c κs = search needs

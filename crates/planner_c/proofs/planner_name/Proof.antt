@@ -1,11 +1,9 @@
 -- `planner_c::planner_name` meets its contract: the stretch of `planner::name_stretch`, with its outcome as number and place.
 -- Assumes nothing.
-use mathlib.Core.Path.{ap, _∙_}
+use mathlib.Core.Path.{_≡_, ap, _∙_}
 use borrow.Author.Needs.{needs}
-use Rattle.refusal.specs.Number.{numberOf, placeOf}
 use Rattle.scan.specs.Scan.{bytesOf}
-use Rattle.inquiries.specs.declared.NameStretch.{NameStretch}
-use Rattle.inquiries.specs.Stretch.{noName}
+use Rattle.planner_c.specs.Exported.{nameExported}
 use Rattle.planner_c.proofs.planner_name.Statement.{statement}
 use Rattle.planner_c.proofs.planner_name.Tie as tie
 
@@ -19,16 +17,11 @@ place-requires : tie.Need-place-requires
 place-requires c κs = search needs
 
 returns : tie.Need-returns
-unfolding bytesOf noName
+unfolding bytesOf nameExported
 returns c =
     let n = c .before .before .before .name-stretch in
-    let is = n .ensures in
-    record {
-      number = c .before .number .ensures ∙ ap numberOf (is .outcome);
-      place = c .place .ensures ∙ ap placeOf (is .outcome);
-      bytes = is .bytes;
-      refusal = λ x e. let z = is .refusal x (is .outcome ∙ e) in (ap (λ (r : NameStretch). r .span .start) z, ap (λ (r : NameStretch). r .span .len) z);
-    }
+    let whole : _ ≡ nameExported (n .result) = λ i. record { number = c .before .number .ensures i; place = c .place .ensures i; start = n .result .span .start; length = n .result .span .len } in
+    record { is = whole ∙ ap nameExported (n .ensures .is); bytes = n .ensures .bytes }
 
 pub planner-name-spec : {M : Type 1} → statement M
 planner-name-spec = tie.close (tie.spec name-stretch-requires number-requires place-requires returns)
