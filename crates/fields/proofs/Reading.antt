@@ -29,6 +29,7 @@ unfolding valueAfter
 value-grows v [] = le-refl v
 value-grows v (b ∷ bs) = le-trans (omega arith) (value-grows (v * 10 + (b - 48)) bs)
 
+-- a field that begins with a digit from 1 on is read digit by digit; an empty one, and one that begins with 0 or a lower byte, is malformed
 pub number-start : (s : List ℕ) → 49 ≤ getD s 0 0 → numberIn s ≡ numberFrom 0 s
 unfolding numberIn numberFrom isNumber leadingZero valueAfter
 number-start [] h = absurd (omega arith)
@@ -54,10 +55,12 @@ number-zero (b ∷ bs) l h = go (eqb b 48) refl
     go true e = simp (e, and-false)
     go false e = let n = eqb-false b 48 e in simp (every-fail isDigit b bs (no-digit b (omega arith)))
 
+-- a number once past the limit is malformed, whatever follows
 pub number-large : (v : ℕ) (bs : List ℕ) → numberLimit < v → numberFrom v bs ≡ Malformed
 unfolding numberFrom
 number-large v bs h = simp (lt-leb (valueAfter v bs) numberLimit (le-trans h (value-grows v bs)), and-false)
 
+-- by the next byte: a digit, another byte, none
 module _ (s : List ℕ) (i v : ℕ) where
   pub number-more : i < length s → isDigit (getD s i 0) ≡ true → numberFrom v (drop i s) ≡ numberFrom (v * 10 + (getD s i 0 - 48)) (drop (i + 1) s)
   unfolding numberFrom valueAfter

@@ -32,6 +32,7 @@ pub from-start : (s : List ℕ) (at : ℕ) → lineAt s at ≡ lineFrom (drop at
 unfolding lineAt lineFrom
 from-start s at = refl
 
+-- by the first byte of the rest: none, byte 10, one that is not allowed; and further down another one
 from-end : (i : ℕ) (ts : List ℕ) → lineFrom [] i ts ≡ notGood
 unfolding lineFrom lineIsGood isEnded
 from-end i ts = refl
@@ -45,18 +46,18 @@ unfolding lineFrom lineIsGood isEnded bodyOf
 from-forbidden b bs i ts n a = simp (ne-eqb b 10 n, every-fail isAllowed b (bodyOf bs) a, and-false)
 
 -- the tabs with the one at i, if b is a tab
-abbrev pub with : List ℕ → ℕ → ℕ → List ℕ
-with ts b i = ts ++ cond (eqb b 9) (i ∷ []) []
+abbrev pub withTab : List ℕ → ℕ → ℕ → List ℕ
+withTab ts b i = ts ++ cond (eqb b 9) (i ∷ []) []
 
-from-more : (b : ℕ) (bs : List ℕ) (i : ℕ) (ts : List ℕ) → (b ≡ 10 → ⊥) → isAllowed b ≡ true → lineFrom (b ∷ bs) i ts ≡ lineFrom bs (i + 1) (with ts b i)
+from-more : (b : ℕ) (bs : List ℕ) (i : ℕ) (ts : List ℕ) → (b ≡ 10 → ⊥) → isAllowed b ≡ true → lineFrom (b ∷ bs) i ts ≡ lineFrom bs (i + 1) (withTab ts b i)
 unfolding lineFrom lineIsGood isEnded bodyOf tabsFrom
 from-more b bs i ts n a = simp (ne-eqb b 10 n, every-pass isAllowed b (bodyOf bs) a, add-one i, add-suc, suc-add, append-assoc)
 
-pub mark-firstFive : (ts : List ℕ) (b i : ℕ) → markOf (firstFive ts) b i ≡ firstFive (with ts b i)
+pub mark-firstFive : (ts : List ℕ) (b i : ℕ) → markOf (firstFive ts) b i ≡ firstFive (withTab ts b i)
 unfolding markOf firstFive
 mark-firstFive ts b i = go (eqb b 9) (ltb (length ts) 5) refl refl
   where
-    go : (t u : Bool) → eqb b 9 ≡ t → ltb (length ts) 5 ≡ u → markOf (firstFive ts) b i ≡ firstFive (with ts b i)
+    go : (t u : Bool) → eqb b 9 ≡ t → ltb (length ts) 5 ≡ u → markOf (firstFive ts) b i ≡ firstFive (withTab ts b i)
     go false u p q = simp (p, append-nil)
     go true true p q =
         let h : length ts < 5 = ltb-true _ _ q in
@@ -74,7 +75,7 @@ module _ (s : List ℕ) (i : ℕ) (ts : List ℕ) (h : i < length s) where
   pub at-newline : getD s i 0 ≡ 10 → lineFrom (drop i s) i ts ≡ goodAt i (firstFive ts)
   at-newline e = rw (drop-cons s i 0 h) (from-newline _ _ _ _ e)
 
-  at-more : (getD s i 0 ≡ 10 → ⊥) → isAllowed (getD s i 0) ≡ true → lineFrom (drop i s) i ts ≡ lineFrom (drop (i + 1) s) (i + 1) (with ts (getD s i 0) i)
+  at-more : (getD s i 0 ≡ 10 → ⊥) → isAllowed (getD s i 0) ≡ true → lineFrom (drop i s) i ts ≡ lineFrom (drop (i + 1) s) (i + 1) (withTab ts (getD s i 0) i)
   at-more n a = rw (drop-cons s i 0 h) (from-more _ _ _ _ n a ∙ rw add-one)
 
   pub at-plain : leb 33 (getD s i 0) && leb (getD s i 0) 126 ≡ true → lineFrom (drop i s) i ts ≡ lineFrom (drop (i + 1) s) (i + 1) ts
@@ -84,7 +85,7 @@ module _ (s : List ℕ) (i : ℕ) (ts : List ℕ) (h : i < length s) where
       let n : eqb (getD s i 0) 9 ≡ false = ne-eqb (getD s i 0) 9 (λ q. absurd (omega (arith, l, q))) in
       at-more (λ q. absurd (omega (arith, l, q))) (simp (n, e)) ∙ ap (lineFrom (drop (i + 1) s) (i + 1)) (ap (λ (t : Bool). ts ++ cond t (i ∷ []) []) n ∙ append-nil ts)
 
-  pub at-tab : getD s i 0 ≡ 9 → lineFrom (drop i s) i ts ≡ lineFrom (drop (i + 1) s) (i + 1) (with ts (getD s i 0) i)
+  pub at-tab : getD s i 0 ≡ 9 → lineFrom (drop i s) i ts ≡ lineFrom (drop (i + 1) s) (i + 1) (withTab ts (getD s i 0) i)
   unfolding isAllowed
   at-tab e = at-more (λ q. absurd (omega (arith, e, q))) (simp (eq-eqb _ 9 e))
 

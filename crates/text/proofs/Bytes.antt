@@ -93,9 +93,11 @@ fields-tabless (b ∷ bs) = go (eqb b 9) refl (fields-some bs) (fields-tabless b
     go true e r ih = rw (e, fieldsOf) (every-pass (without 9) [] (fieldsOf bs) (without-none 9) ∙ ih)
     go false e r ih = rw (e, fieldsOf, r .2) (without-into 9 b (r .0) (r .1) e (rw (r .2) at ih))
 
+-- no byte b on a line
 abbrev bodyWithout : ℕ → Line → Bool
 bodyWithout b l = without b (l .body)
 
+-- a byte other than 10 before the first of several lines without 10
 lines-into : (b : ℕ) (ls : List Line) → eqb b 10 ≡ false → every (bodyWithout 10) ls ≡ true → every (bodyWithout 10) (intoLine b ls) ≡ true
 unfolding intoLine
 lines-into b [] e h =
@@ -109,10 +111,10 @@ lines-into b (l ∷ ls) e h = go (without 10 (l .body)) refl
         every-pass (bodyWithout 10) (record { body = b ∷ l .body; ended = l .ended }) ls w ∙ (sym (every-pass (bodyWithout 10) l ls k) ∙ h)
     go false k = absurd (false≢true (sym (every-fail (bodyWithout 10) l ls k) ∙ h))
 
-pub lines-endless : (s : List ℕ) → every (bodyWithout 10) (linesOf s) ≡ true
+pub lines-newlineless : (s : List ℕ) → every (bodyWithout 10) (linesOf s) ≡ true
 unfolding linesOf
-lines-endless [] = every-none (bodyWithout 10)
-lines-endless (b ∷ bs) = go (eqb b 10) refl (lines-endless bs)
+lines-newlineless [] = every-none (bodyWithout 10)
+lines-newlineless (b ∷ bs) = go (eqb b 10) refl (lines-newlineless bs)
   where
     go : (t : Bool) → eqb b 10 ≡ t → every (bodyWithout 10) (linesOf bs) ≡ true → every (bodyWithout 10) (linesOf (b ∷ bs)) ≡ true
     go true e ih = rw (e, linesOf) (every-pass (bodyWithout 10) (record { body = []; ended = true }) (linesOf bs) (without-none 10) ∙ ih)

@@ -6,7 +6,7 @@ use mathlib.Core.Path.{_≡_, sym, _∙_}
 use mathlib.Core.List.{List, []}
 use lib.ListN.{length, drop, getD}
 use Rattle.scan.specs.Scan.{lineAt, firstFive}
-use Rattle.scan.proofs.Scan.{lineFrom, from-start, at-newline, at-forbidden, at-plain, at-tab, at-end, mark-firstFive, with}
+use Rattle.scan.proofs.Scan.{lineFrom, from-start, at-newline, at-forbidden, at-plain, at-tab, at-end, mark-firstFive, withTab}
 use Rattle.scan.proofs.line_at.Statement.{statement}
 use Rattle.scan.proofs.line_at.Tie as tie
 
@@ -53,7 +53,7 @@ loop-again-2 : tie.Need-loop-again-2 Inv-loop μ-loop
 loop-again-2 c =
     let l = c .before .before .before .before .before .before in
     let s = l .before .before .before .args .s .now in (
-      with (l .loop .inv .0) (getD s (l .loop .i) 0) (l .loop .i),
+      withTab (l .loop .inv .0) (getD s (l .loop .i) 0) (l .loop .i),
       c .mark .ensures ∙ rw (l .loop .inv .1) (mark-firstFive _ _ _),
       l .loop .inv .2 ∙ at-tab s (l .loop .i) (l .loop .inv .0) (c .before .before .before .before .before .loop-test .taken) (c .before .if2 .taken),
     )
