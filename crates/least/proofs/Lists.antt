@@ -59,6 +59,11 @@ module _ {A : Type 0} where
   some-filled [] h = absurd (omega arith)
   some-filled (x ∷ xs) h = refl
 
+  pub not-empty : (xs : List A) → not (isEmpty xs) ≡ true → 1 ≤ length xs
+  unfolding isEmpty
+  not-empty [] e = absurd (false≢true e)
+  not-empty (x ∷ xs) e = omega arith
+
   -- every
   pub every-none : (test : A → Bool) → every test [] ≡ true
   unfolding every

@@ -72,23 +72,23 @@ times-malformed T C D e = go (numbers T C D) refl
     go true k = let f : Are (valueOf T) (valueOf C) (valueOf D) ≡ Malformed = rw k at e in let z : _≡_ {A = ℕ} 0 1 = cc in absurd (omega arith)
     go false k = k
 
--- one of them is malformed; none is
+-- one of them is malformed; all are read
 module _ (T C D : List ℕ) where
-  pub times-first : isNumber T ≡ false → Malformed ≡ timesIn T C D
+  pub separation-malformed : isNumber T ≡ false → Malformed ≡ timesIn T C D
   unfolding timesIn
-  times-first e = simp e
+  separation-malformed e = simp e
 
-  pub times-second : isNumber C ≡ false → Malformed ≡ timesIn T C D
+  pub cost-malformed : isNumber C ≡ false → Malformed ≡ timesIn T C D
   unfolding timesIn
-  times-second e = simp (e, and-false)
+  cost-malformed e = simp (e, and-false)
 
-  pub times-third : isNumber D ≡ false → Malformed ≡ timesIn T C D
+  pub deadline-malformed : isNumber D ≡ false → Malformed ≡ timesIn T C D
   unfolding timesIn
-  times-third e = simp (e, and-false)
+  deadline-malformed e = simp (e, and-false)
 
-  pub times-all : {t c d : ℕ} → NumberIs T t → NumberIs C c → NumberIs D d → Are t c d ≡ timesIn T C D
+  pub times-read : {t c d : ℕ} → NumberIs T t → NumberIs C c → NumberIs D d → Are t c d ≡ timesIn T C D
   unfolding timesIn
-  times-all x y z = simp (x .good, y .good, z .good, x .value, y .value, z .value)
+  times-read x y z = simp (x .good, y .good, z .good, x .value, y .value, z .value)
 
 -- question 4 and question 5 have the answer yes
 pub record Named (allowed : Bool) (name : List ℕ) : Type 0 where
@@ -157,13 +157,13 @@ module _ (s : List ℕ) (n : ℕ) (allowed : Bool) (tasks : Names) (name T C D :
   unfolding taskEntry taskQuestions firstNo entryIf
   task-misnumbered a l b = simp (a .here, a .good, new-name s tasks fine (bytesOf s name) l, b)
 
-  pub task-late : {t c d : ℕ} → Named allowed (bytesOf s name) → tasks .count ≤ placeOf (bytesOf s name) (namesOf s tasks) → TimesAre (bytesOf s T) (bytesOf s C) (bytesOf s D) t c d → d < c → RefusedEntry (BadOrder n) ≡ taskEntry s n allowed tasks name T C D
+  pub task-cost-over-deadline : {t c d : ℕ} → Named allowed (bytesOf s name) → tasks .count ≤ placeOf (bytesOf s name) (namesOf s tasks) → TimesAre (bytesOf s T) (bytesOf s C) (bytesOf s D) t c d → d < c → RefusedEntry (BadOrder n) ≡ taskEntry s n allowed tasks name T C D
   unfolding taskEntry taskQuestions firstNo entryIf
-  task-late a l b h = simp (a .here, a .good, new-name s tasks fine (bytesOf s name) l, b .good, b .separation, b .cost, b .deadline, lt-leb _ _ h)
+  task-cost-over-deadline a l b h = simp (a .here, a .good, new-name s tasks fine (bytesOf s name) l, b .good, b .separation, b .cost, b .deadline, lt-leb _ _ h)
 
-  pub task-slow : {t c d : ℕ} → Named allowed (bytesOf s name) → tasks .count ≤ placeOf (bytesOf s name) (namesOf s tasks) → TimesAre (bytesOf s T) (bytesOf s C) (bytesOf s D) t c d → t < d → RefusedEntry (BadOrder n) ≡ taskEntry s n allowed tasks name T C D
+  pub task-deadline-over-separation : {t c d : ℕ} → Named allowed (bytesOf s name) → tasks .count ≤ placeOf (bytesOf s name) (namesOf s tasks) → TimesAre (bytesOf s T) (bytesOf s C) (bytesOf s D) t c d → t < d → RefusedEntry (BadOrder n) ≡ taskEntry s n allowed tasks name T C D
   unfolding taskEntry taskQuestions firstNo entryIf
-  task-slow a l b h = simp (a .here, a .good, new-name s tasks fine (bytesOf s name) l, b .good, b .separation, b .cost, b .deadline, lt-leb _ _ h, and-false)
+  task-deadline-over-separation a l b h = simp (a .here, a .good, new-name s tasks fine (bytesOf s name) l, b .good, b .separation, b .cost, b .deadline, lt-leb _ _ h, and-false)
 
   pub task-too-many : {t c d : ℕ} → Named allowed (bytesOf s name) → tasks .count ≤ placeOf (bytesOf s name) (namesOf s tasks) → TimesAre (bytesOf s T) (bytesOf s C) (bytesOf s D) t c d → c ≤ d → d ≤ t → 16 ≤ tasks .count → RefusedEntry (TooMany n) ≡ taskEntry s n allowed tasks name T C D
   unfolding taskEntry taskQuestions firstNo entryIf
@@ -194,9 +194,9 @@ module _ (s : List ℕ) (n : ℕ) (allowed : Bool) (last : TaskNumbers) (locks :
   unfolding lockEntry lockQuestions firstNo entryIf
   lock-misnumbered a l b = simp (a .here, a .good, ← at, lt-leb 1 (useAt last j) l, b)
 
-  pub lock-long : {v : ℕ} → Named allowed (bytesOf s name) → useAt last j < 1 → NumberIs (bytesOf s held) v → last .cost < v → RefusedEntry (BadOrder n) ≡ lockEntry s n allowed last locks name held
+  pub lock-held-over-cost : {v : ℕ} → Named allowed (bytesOf s name) → useAt last j < 1 → NumberIs (bytesOf s held) v → last .cost < v → RefusedEntry (BadOrder n) ≡ lockEntry s n allowed last locks name held
   unfolding lockEntry lockQuestions firstNo entryIf
-  lock-long a l b h = simp (a .here, a .good, ← at, lt-leb 1 (useAt last j) l, b .good, b .value, lt-leb _ _ h)
+  lock-held-over-cost a l b h = simp (a .here, a .good, ← at, lt-leb 1 (useAt last j) l, b .good, b .value, lt-leb _ _ h)
 
   pub lock-enters : {v : ℕ} → Named allowed (bytesOf s name) → useAt last j < 1 → NumberIs (bytesOf s held) v → v ≤ last .cost → j < 8 → Lock name j v ≡ lockEntry s n allowed last locks name held
   unfolding lockEntry lockQuestions firstNo entryIf

@@ -10,7 +10,7 @@ use mathlib.Core.Bool.{Bool, true, false, _&&_}
 use mathlib.Core.List.{List, [], _∷_, _++_, List·Memᴰ, List·Memᴰ·not-nil}
 use lib.ListN.{length, length-map, length-append}
 use Rattle.least.specs.Lists.{onLast, joined}
-use Rattle.least.proofs.Lists.{and-iff}
+use Rattle.least.proofs.Lists.{and-iff, not-empty}
 use Rattle.least.proofs.Last.{last-member, length-on-last, snoc-each, on-last-each}
 use Rattle.text.specs.Bytes.{among, mention, distinctAfter}
 use Rattle.text.specs.Decimal.{valueOf}
@@ -30,7 +30,6 @@ use Rattle.plan_file.proofs.SeenLocks.{lock-names-task, lock-names-lock
 use Rattle.plan_file.proofs.SeenPart.{lastTask}
 use Rattle.plan_file.proofs.SeenAbove.{taskOf, lockOf}
 use Rattle.plan_file.proofs.SeenDone.{part-done, task-done, lock-done}
-use Rattle.plan_file.proofs.SeenEntered.{not-empty}
 
 pub record FineFileLock (C : ℕ) (l : FileLock) : Type 0 where
   pub held-some : 1 ≤ l .held

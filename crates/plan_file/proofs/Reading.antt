@@ -78,9 +78,9 @@ read-ended : (n : ℕ) (a : Above) → isEnd (a .directly) ≡ true → readLine
 unfolding readLines
 read-ended n a e = simp e
 
-read-short : (n : ℕ) (a : Above) → isEnd (a .directly) ≡ false → readLines n a [] ≡ refused (Misplaced n)
+read-run-out : (n : ℕ) (a : Above) → isEnd (a .directly) ≡ false → readLines n a [] ≡ refused (Misplaced n)
 unfolding readLines
-read-short n a e = simp e
+read-run-out n a e = simp e
 
 -- lines whose answers are yes are read past
 read-past : (n : ℕ) (a : Above) (before behind : List Line) → AllYes n a before → readLines n a (before ++ behind) ≡ readLines (n + length before) (said a before) behind
@@ -114,9 +114,9 @@ passed n a (l ∷ ls) = go (firstNo (questionsAt n a l)) refl (passed (suc n) (a
     go (Refused r) e k = inr (r, stops-here n a l ls r e)
 
 -- a file that is too long is refused, another is its lines
-pub read-long : (s : List ℕ) → fileLimit < length s → readFile s ≡ refused FileTooLong
+pub read-too-long : (s : List ℕ) → fileLimit < length s → readFile s ≡ refused FileTooLong
 unfolding readFile firstNo whenDone
-read-long s h = simp (lt-leb (length s) fileLimit h)
+read-too-long s h = simp (lt-leb (length s) fileLimit h)
 
 pub read-lines : (s : List ℕ) → length s ≤ fileLimit → readFile s ≡ readLines 1 nothingAbove (linesOf s)
 unfolding readFile firstNo whenDone
@@ -126,10 +126,10 @@ read-all : (s : List ℕ) → length s ≤ fileLimit → AllYes 1 nothingAbove (
 read-all s h p = read-lines s h ∙ (ap (readLines 1 nothingAbove) (sym (append-nil (linesOf s))) ∙ read-past 1 nothingAbove (linesOf s) [] p)
 
 refused-so : (s : List ℕ) (r : Refusal) → RefusedAt s r → readFile s ≡ refused r
-refused-so s r (too-long h e) = read-long s h ∙ ap refused (sym e)
+refused-so s r (too-long h e) = read-too-long s h ∙ ap refused (sym e)
 refused-so s r (on-line h d) =
     read-lines s h ∙ (ap (readLines 1 nothingAbove) (d .lines) ∙ (read-past 1 nothingAbove (d .before) (d .line ∷ d .behind) (d .yes) ∙ read-stop _ _ (d .line) (d .behind) r (refused-iff _ r .1 (d .no))))
-refused-so s r (run-out h p e q) = read-all s h p ∙ (read-short _ _ e ∙ ap refused (sym q))
+refused-so s r (run-out h p e q) = read-all s h p ∙ (read-run-out _ _ e ∙ ap refused (sym q))
 
 answered-so : (s : List ℕ) (ps : List FilePart) → AnsweredBy s ps → readFile s ≡ answered ps
 answered-so s ps d = read-all s (d .fits) (d .yes) ∙ (read-ended _ _ (d .ended) ∙ ap answered (d .are))

@@ -3,11 +3,11 @@
 use Prim.Native.Nat.{ℕ, _≤_, _<_}
 use native.Mathlib.Omega.{arith}
 use mathlib.Core.Path.{_≡_, refl, sym, ap, _∙_, subst}
-use mathlib.Core.Bool.{Bool, true, false, not, _&&_, false≢true}
+use mathlib.Core.Bool.{Bool, true, false, _&&_, false≢true}
 use mathlib.Core.List.{List, [], _∷_}
 use lib.ListN.{length, length-map}
-use Rattle.least.specs.Lists.{isEmpty, lastOr}
-use Rattle.least.proofs.Lists.{and-iff}
+use Rattle.least.specs.Lists.{lastOr}
+use Rattle.least.proofs.Lists.{and-iff, not-empty}
 use Rattle.text.specs.Bytes.{among, mention}
 use Rattle.text.specs.Decimal.{valueOf}
 use Rattle.refusal.specs.declared.Refusal.{Refusal}
@@ -113,12 +113,7 @@ module _ (s : List ℕ) (seen : Seen) where
   end-record n EndShape d e = refl
   end-record n Unknown d e = absurd (omega (arith, ap kindOf d))
 
--- above a record that is allowed
-pub not-empty : {A : Type 0} (xs : List A) → not (isEmpty xs) ≡ true → 1 ≤ length xs
-unfolding isEmpty
-not-empty [] e = absurd (false≢true e)
-not-empty (x ∷ xs) e = omega arith
-
+-- where a task is above, a part is
 task-in-part : (ps : List FilePart) → 1 ≤ length (lastOr noPart ps .tasks) → 1 ≤ length ps
 unfolding lastOr
 task-in-part [] h = absurd (omega arith)

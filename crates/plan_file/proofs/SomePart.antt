@@ -6,7 +6,7 @@ use mathlib.Core.Path.{_≡_}
 use mathlib.Core.Bool.{true, false≢true}
 use mathlib.Core.List.{List}
 use lib.ListN.{length}
-use Rattle.least.proofs.Lists.{and-iff}
+use Rattle.least.proofs.Lists.{and-iff, not-empty}
 use Rattle.refusal.specs.declared.Outcome.the-variants.{Done}
 use Rattle.refusal.specs.Questions.{firstNo}
 use Rattle.refusal.specs.Questions.Answer.{answered}
@@ -17,7 +17,6 @@ use Rattle.records.specs.Records.Record.{part, task, lock, end, noRecord}
 use Rattle.plan_file.specs.Above.{Above, FilePart, after, partsAfter}
 use Rattle.plan_file.specs.Reading.{isEnd, notBehindEnd, notBehindPart, partAbove, allowedHere, recordQuestions, readFile}
 use Rattle.plan_file.proofs.Reading.{read-answered-iff, read-keeps}
-use Rattle.plan_file.proofs.SeenEntered.{not-empty}
 
 abbrev PartSeen : Above → Type 0
 PartSeen a = isEnd (a .directly) ≡ true → 1 ≤ length (a .parts)

@@ -28,7 +28,7 @@ use Rattle.plan_file.specs.Above.{FilePart, Above, nothingAbove, after}
 use Rattle.plan_file.specs.Reading.{isEnd, recordQuestions, questionsAt, readLines, readFile}
 use Rattle.plan_file.specs.Entries.{FineSeen, noSpan, noTaskRead, noneSeen, entryOf}
 use Rattle.plan_file.specs.Stretches.{nameSpans}
-use Rattle.plan_file.proofs.Reading.{read-next, read-stop, read-long, read-lines}
+use Rattle.plan_file.proofs.Reading.{read-next, read-stop, read-too-long, read-lines}
 use Rattle.plan_file.proofs.SeenAbove.{seen-is-fine, part-count}
 use Rattle.plan_file.proofs.SeenEntered.{AllDone, refused-entered}
 use Rattle.reader.specs.declared.PartRead.{PartRead}
@@ -47,7 +47,7 @@ pub record Reading (s : List ℕ) (c : Cursor) (seen : Seen) (opened : ℕ) (nam
 
 pub reading-too-long : (s : List ℕ) → fileLimit < length s → refused FileTooLong ≡ numbered (readFile s)
 unfolding numbered
-reading-too-long s h = ap numbered (sym (read-long s h))
+reading-too-long s h = ap numbered (sym (read-too-long s h))
 
 pub reading-start : (s : List ℕ) → length s ≤ fileLimit → Reading s (record { at = 0; line = 1 }) noneSeen 0 noSpan 0 (pad 16 noTaskRead []) (pad 16 noPartRead [])
 reading-start s h =

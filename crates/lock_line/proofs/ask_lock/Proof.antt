@@ -6,7 +6,7 @@ use mathlib.Core.Bool.{false}
 use borrow.Author.Tests.{not-true, not-false}
 use Rattle.scan.specs.Scan.{bytesOf}
 use Rattle.plan_file.specs.Entries.{useAt}
-use Rattle.plan_file.proofs.Asking.{NumberIs, number-is, number-malformed, Named, named-by-tests, lock-misplaced, lock-misnamed, lock-known, lock-misnumbered, lock-long, lock-too-many, lock-enters}
+use Rattle.plan_file.proofs.Asking.{NumberIs, number-is, number-malformed, Named, named-by-tests, lock-misplaced, lock-misnamed, lock-known, lock-misnumbered, lock-held-over-cost, lock-too-many, lock-enters}
 use borrow.Author.Needs.{needs}
 use Rattle.lock_line.proofs.ask_lock.Statement.{statement}
 use Rattle.lock_line.proofs.ask_lock.Tie as tie
@@ -70,7 +70,7 @@ returns-4 : tie.Need-returns-4
 returns-4 c =
     let d = c .before .before .before .before .before .before .before in
     let s = start (d .before .before .before) in
-    lock-long _ _ _ _ _ _ _ (s .pre .0) (s .pre .1) _ (d .before .before .place-in .ensures) (named (d .before .before .before)) (new d) (number (c .before .before)) (c .if4 .taken)
+    lock-held-over-cost _ _ _ _ _ _ _ (s .pre .0) (s .pre .1) _ (d .before .before .place-in .ensures) (named (d .before .before .before)) (new d) (number (c .before .before)) (c .if4 .taken)
 
 returns-5 : tie.Need-returns-5
 returns-5 c =

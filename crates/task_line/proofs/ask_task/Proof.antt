@@ -6,7 +6,7 @@ use mathlib.Core.Bool.{false}
 use borrow.Author.Tests.{not-true, not-false}
 use Rattle.scan.specs.Scan.{bytesOf}
 use Rattle.plan_file.specs.Entries.{namesOf, placeOf}
-use Rattle.plan_file.proofs.Asking.{TimesAre, times-are, times-malformed, Named, named-by-tests, task-misplaced, task-misnamed, task-known, task-misnumbered, task-late, task-slow, task-too-many, task-enters}
+use Rattle.plan_file.proofs.Asking.{TimesAre, times-are, times-malformed, Named, named-by-tests, task-misplaced, task-misnamed, task-known, task-misnumbered, task-cost-over-deadline, task-deadline-over-separation, task-too-many, task-enters}
 use borrow.Author.Needs.{needs}
 use Rattle.task_line.proofs.ask_task.Statement.{statement}
 use Rattle.task_line.proofs.ask_task.Tie as tie
@@ -59,12 +59,12 @@ enum-known-t c = search needs
 returns-4 : tie.Need-returns-4
 returns-4 c =
     let d = c .before .before .before .before .before in
-    task-late _ _ _ _ _ _ _ _ (start (d .before .before) .pre) (named (d .before .before)) (new d) (times (c .before)) (c .if4 .taken)
+    task-cost-over-deadline _ _ _ _ _ _ _ _ (start (d .before .before) .pre) (named (d .before .before)) (new d) (times (c .before)) (c .if4 .taken)
 
 returns-5 : tie.Need-returns-5
 returns-5 c =
     let d = c .before .before .before .before .before .before in
-    task-slow _ _ _ _ _ _ _ _ (start (d .before .before) .pre) (named (d .before .before)) (new d) (times (c .before .before)) (c .if5 .taken)
+    task-deadline-over-separation _ _ _ _ _ _ _ _ (start (d .before .before) .pre) (named (d .before .before)) (new d) (times (c .before .before)) (c .if5 .taken)
 
 returns-6 : tie.Need-returns-6
 returns-6 c =

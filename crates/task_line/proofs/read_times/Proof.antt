@@ -1,6 +1,6 @@
 -- `task_line::read_times` meets its contract.
 -- Assumes nothing.
-use Rattle.plan_file.proofs.Asking.{number-is, number-malformed, times-first, times-second, times-third, times-all}
+use Rattle.plan_file.proofs.Asking.{number-is, number-malformed, separation-malformed, cost-malformed, deadline-malformed, times-read}
 use borrow.Author.Needs.{needs}
 use Rattle.task_line.proofs.read_times.Statement.{statement}
 use Rattle.task_line.proofs.read_times.Tie as tie
@@ -18,7 +18,7 @@ enum-told : tie.Need-enum-told
 enum-told c = search needs
 
 returns : tie.Need-returns
-returns c = times-first _ _ _ (number-malformed _ (cc))
+returns c = separation-malformed _ _ _ (number-malformed _ (cc))
 
 bytes-requires-2 : tie.Need-bytes-requires-2
 bytes-requires-2 c κs = search needs
@@ -33,7 +33,7 @@ enum-told-2 : tie.Need-enum-told-2
 enum-told-2 c = search needs
 
 returns-2 : tie.Need-returns-2
-returns-2 c = times-second _ _ _ (number-malformed _ (cc))
+returns-2 c = cost-malformed _ _ _ (number-malformed _ (cc))
 
 bytes-requires-3 : tie.Need-bytes-requires-3
 bytes-requires-3 c κs = search needs
@@ -48,10 +48,10 @@ enum-told-3 : tie.Need-enum-told-3
 enum-told-3 c = search needs
 
 returns-3 : tie.Need-returns-3
-returns-3 c = times-third _ _ _ (number-malformed _ (cc))
+returns-3 c = deadline-malformed _ _ _ (number-malformed _ (cc))
 
 returns-4 : tie.Need-returns-4
-returns-4 c = times-all _ _ _ (number-is _ _ (cc)) (number-is _ _ (cc)) (number-is _ _ (cc))
+returns-4 c = times-read _ _ _ (number-is _ _ (cc)) (number-is _ _ (cc)) (number-is _ _ (cc))
 
 pub read-times-spec : {M : Type 1} → statement M
 read-times-spec =
