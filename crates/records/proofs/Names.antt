@@ -5,7 +5,7 @@ use native.Mathlib.Omega.{arith}
 use mathlib.Core.Path.{_≡_, refl, sym, ap, _∙_}
 use mathlib.Core.Bool.{Bool, true, false, cond}
 use mathlib.Core.List.{List}
-use lib.Dec.{eqb, ltb}
+use lib.Dec.{eqb}
 use lib.ListN.{length, drop, getD, length-take, length-drop}
 use borrow.Author.Tests.{eqb-true}
 use Rattle.text.specs.Bytes.{bytes}
@@ -13,7 +13,7 @@ use Rattle.scan.specs.declared.Span.{Span}
 use Rattle.scan.specs.declared.Scanned.{Scanned}
 use Rattle.scan.specs.Scan.{bytesOf}
 use Rattle.records.specs.declared.Shape.{Shape}
-use Rattle.records.specs.declared.Shape.the-variants.{Part, Task, Lock, End, Unknown}
+use Rattle.records.specs.declared.Shape.the-variants.{Part, Unknown}
 use Rattle.records.specs.Shapes.{upTo, endOf, firstField, field, wordOf, partShape, taskShape, lockShape, endShape, shapeOf}
 use Rattle.records.specs.Cursor.{nameSpan}
 use Rattle.records.proofs.Records.{by-word}

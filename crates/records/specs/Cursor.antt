@@ -3,7 +3,7 @@
 --   nameSpan at name == where the name of a record stands whose line begins at `at`: behind a word of four letters and a tab
 --   NextIs s c n  == n is what stands at the cursor c
 -- Assumes nothing.
-use Prim.Native.Nat.{ℕ, suc, _+_, _≤_, _<_}
+use Prim.Native.Nat.{ℕ, suc, _+_, _≤_}
 use mathlib.Core.Path.{_≡_}
 use mathlib.Core.Bool.{true, false}
 use mathlib.Core.List.{List, _∷_}
