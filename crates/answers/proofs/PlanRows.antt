@@ -16,7 +16,7 @@ use Rattle.least.specs.declared.Frac.{Frac}
 use Rattle.least.specs.Lists.{isEmpty, every, some, firstOf, nthOr}
 use Rattle.least.specs.Each.{Each}
 use Rattle.least.specs.Fraction.{_⊑_}
-use Rattle.least.proofs.Lists.{every-member, every-not, some-iff, some-none, FirstAt, first-at, first-none, nth-member}
+use Rattle.least.proofs.Lists.{every-member, every-not, some-iff, some-none, FirstAt, first-at, first-none, nth-of-map, nth-member}
 use Rattle.least.proofs.Each.{length-equal}
 use Rattle.least.proofs.Zip.{zip3-second, zip3-third}
 use Rattle.least.proofs.Fraction.{⊑-trans}
@@ -33,7 +33,6 @@ use Rattle.selection.proofs.Selection.{leastLoaded-member, leastLoaded-least, s
 use Rattle.selection.proofs.Greatest.{member-some, leastLoaded-greatest}
 use Rattle.plan_file.specs.Above.{FilePart, noPart}
 use Rattle.plan_file.specs.Reading.{readFile}
-use Rattle.plan_file.proofs.PartLines.{nth-of-map}
 use Rattle.answers.specs.Parts.{keptRows, shareOf, sharesOf}
 use Rattle.answers.specs.Answers.{planRows, planText, planQuestions, planParts, planOf}
 use Rattle.answers.specs.Choice.{Chosen, PassingChoice, FromKept}

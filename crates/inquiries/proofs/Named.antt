@@ -4,13 +4,13 @@ use Prim.Native.Nat.{ℕ, zero, suc, _-_, _≤_, _<_}
 use native.Mathlib.Omega.{arith}
 use mathlib.Core.Path.{_≡_, refl, sym, ap, _∙_}
 use mathlib.Core.Bool.{true, false, _&&_}
-use mathlib.Core.List.{List, map}
+use mathlib.Core.List.{List}
 use borrow.Author.Tests.{leb-true}
 use lib.Dec.{leb}
-use lib.ListN.{take, getD, List·getD-map}
+use lib.ListN.{take, getD}
 use lib.Seq.{getD-take}
 use Rattle.least.specs.Lists.{nthOr}
-use Rattle.least.proofs.Lists.{nth-get, and-iff}
+use Rattle.least.proofs.Lists.{nth-get, nth-of-map, and-iff}
 use Rattle.least.proofs.Members.{getD-any}
 use Rattle.refusal.specs.declared.Refusal.{Refusal}
 use Rattle.refusal.specs.declared.Refusal.the-variants.{BadHandSet}
@@ -63,9 +63,8 @@ number-range k n e = let b = and-iff (leb 1 k) (leb k n) .0 e in (leb-true 1 k (
 -- the stretch that was handed on for part k is that of its line
 span-at : (s : List ℕ) (f : PlanFile) → ReadIs s f → f .outcome ≡ Done → (j : ℕ) (d : PartRead) → j < f .count → nthOr noSpan (suc j) (nameSpans s) ≡ getD (f .parts) j d .name
 span-at s f is done j d l =
-    ap (nthOr noSpan (suc j)) (sym (is .spans done)) ∙ nth-get noSpan j (map (λ p. p .name) (take (f .count) (f .parts)))
-    ∙ List·getD-map (λ p. p .name) (take (f .count) (f .parts)) j blankPart
-    ∙ ap (λ (p : PartRead). p .name) (getD-take (f .count) (f .parts) j blankPart l ∙ getD-any (f .parts) j blankPart d (omega (arith, is .few, is .room)))
+    ap (nthOr noSpan (suc j)) (sym (is .spans done)) ∙ nth-of-map (λ p. p .name) blankPart (suc j) (take (f .count) (f .parts))
+    ∙ ap (λ (p : PartRead). p .name) (nth-get blankPart j (take (f .count) (f .parts)) ∙ getD-take (f .count) (f .parts) j blankPart l ∙ getD-any (f .parts) j blankPart d (omega (arith, is .few, is .room)))
 
 pub span-is : (s : List ℕ) (f : PlanFile) → ReadIs s f → f .outcome ≡ Done → (k : ℕ) (d : PartRead) → 1 ≤ k → k ≤ f .count → nthOr noSpan k (nameSpans s) ≡ getD (f .parts) (k - 1) d .name
 span-is s f is done zero d l u = absurd (omega arith)

@@ -308,6 +308,14 @@ module _ {A B : Type 0} where
           let k = Memᴰ·of-map f xs (j .1) in
           (k .0, k .1, subst (List·Memᴰ y) (sym (k .2)) (j .2))
 
+-- the k-th element of a list that f makes
+pub nth-of-map : {A B : Type 0} (f : A → B) (d : A) (k : ℕ) (xs : List A) → nthOr (f d) k (map f xs) ≡ f (nthOr d k xs)
+unfolding nthOr
+nth-of-map f d k [] = refl
+nth-of-map f d zero (x ∷ xs) = refl
+nth-of-map f d (suc zero) (x ∷ xs) = refl
+nth-of-map f d (suc (suc k)) (x ∷ xs) = nth-of-map f d (suc k) xs
+
 -- every number of a range passes
 pub every-range : (test : ℕ → Bool) (a e : ℕ) → (every test (range a e) ≡ true) ↔ ((l : ℕ) → a ≤ l → l ≤ e → test l ≡ true)
 every-range test a e = ((λ t l h k. every-member test (range a e) t (range-iff a e l .1 (h, k))), λ h. every-all test (range a e) (λ l m. let r = range-iff a e l .0 m in h l (r .0) (r .1)))

@@ -3,13 +3,13 @@
 --   partFrom p ls == the part p with the lines ls behind its own
 --   partIn ls     == the part that these lines say, the first of which is its `part` line
 -- Assumes nothing.
-use Prim.Native.Nat.{ℕ, zero, suc}
+use Prim.Native.Nat.{ℕ, suc}
 use mathlib.Core.Path.{_≡_, refl, sym, ap, _∙_}
 use mathlib.Core.Bool.{Bool, true, false, false≢true}
 use mathlib.Core.List.{List, [], _∷_, _++_, map, append-assoc}
 use borrow.Author.Tests.{not-true}
 use Rattle.least.specs.Lists.{nthOr, lastOr, onLast}
-use Rattle.least.proofs.Lists.{and-iff}
+use Rattle.least.proofs.Lists.{and-iff, nth-of-map}
 use Rattle.least.proofs.Last.{on-last-snoc}
 use Rattle.text.specs.Bytes.{Line, linesOf}
 use Rattle.refusal.specs.Questions.Answer.{answered}
@@ -131,13 +131,6 @@ pub read-by-part : (s : List ℕ) (ps : List FilePart) → readFile s ≡ answer
 read-by-part s ps e =
     let d = read-answered-iff s ps .0 e in
     sym (d .are) ∙ parts-by-lines 1 nothingAbove (linesOf s) (d .yes) refl
-
-pub nth-of-map : {A B : Type 0} (f : A → B) (d : A) (k : ℕ) (xs : List A) → nthOr (f d) k (map f xs) ≡ f (nthOr d k xs)
-unfolding nthOr
-nth-of-map f d k [] = refl
-nth-of-map f d zero (x ∷ xs) = refl
-nth-of-map f d (suc zero) (x ∷ xs) = refl
-nth-of-map f d (suc (suc k)) (x ∷ xs) = nth-of-map f d (suc k) xs
 
 -- the part k of a readable file is what its own lines say, whatever stands around them
 pub part-by-lines : (s : List ℕ) (ps : List FilePart) (k : ℕ) → readFile s ≡ answered ps → nthOr noPart k ps ≡ partIn (linesOfPart k s)
