@@ -34,10 +34,10 @@ def signatures(text):
 
 
 def operations():
-    """`crate::function` of each operation that a caller may use with any input: what planner passes on, and all of planner_c."""
+    """`crate::function` of each operation that a caller may use with any input: what planner passes on, all of planner_c, and what the program prints."""
     passed_on = re.findall(r'^pub use (\w+::[a-z]\w*);', (TOP / 'crates' / 'planner' / 'src' / 'lib.rt').read_text(), re.M)
     exported = re.findall(r'fn (\w+)', (TOP / 'crates' / 'planner_c' / 'src' / 'lib.rt').read_text())
-    return set(passed_on) | {f'planner_c::{fn}' for fn in exported}
+    return set(passed_on) | {f'planner_c::{fn}' for fn in exported} | {'console::print'}
 
 
 def check_contracts():

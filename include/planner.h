@@ -2,6 +2,7 @@
  *
  * Every operation takes any bytes and any numbers. Its answer has number and place 0, or the number and the place of the first question that has
  * the answer no (README.md, "Refusals"); then every other number of the answer is 0, and no lent byte is written.
+ * Pointers are not null, even where the length is 0, and `file` and `out` do not overlap.
  * Nothing is kept between calls, and nothing is allocated; a call needs about 200 KB of stack.
  */
 #ifndef PLANNER_H

@@ -33,7 +33,7 @@ use Rattle.selection.proofs.Greatest.{After, Falling, Sorted}
 use Rattle.selection.proofs.Greatest.Falling.{empty, single, next}
 use Rattle.selection.proofs.Greatest.Sorted.{no-part, part}
 use Rattle.plan_file.specs.Above.{FilePart}
-use Rattle.plan_file.specs.Numbers.{locksIn, tasksIn}
+use Rattle.plan_file.specs.Numbers.{lockCount, tasksIn}
 use Rattle.reader.proofs.Fine.{PartFine}
 use Rattle.answers.specs.Parts.{keptPairs, rowOf, keptRows}
 use Rattle.answers.specs.Choice.{Budgeted, rowUnder, Chosen, Choice, PassingChoice, FromKept}
@@ -74,25 +74,25 @@ module _ (p : FilePart) where
       to : List·Memᴰ r (keptRows p) → FromKept p r
       to m =
           let h = map-iff (rowOf p) r (keptPairs p) .0 m in
-          subst (FromKept p) (h .2) (record { kept = kept-iff (p .period) (tasksIn p) (locksIn p) (h .0) .0 (h .1); period = refl })
+          subst (FromKept p) (h .2) (record { kept = kept-iff (p .period) (tasksIn p) (lockCount p) (h .0) .0 (h .1); period = refl })
 
       from : FromKept p r → List·Memᴰ r (keptRows p)
       from k =
           let c : Pair = pair (r .budget) (r .holding) in
           let e : rowOf p c ≡ r = λ i. record { period = sym (k .period) i; budget = r .budget; holding = r .holding } in
-          map-iff (rowOf p) r (keptPairs p) .1 (c, kept-iff (p .period) (tasksIn p) (locksIn p) c .1 (k .kept), e)
+          map-iff (rowOf p) r (keptPairs p) .1 (c, kept-iff (p .period) (tasksIn p) (lockCount p) c .1 (k .kept), e)
 
   -- the ceilings shown for a kept row are its own: its budget passes under them, and they have its X
   module _ (r : Row) (k : FromKept p r) where
     pub shown-passes : Budgeted p (shownCeiling (tasksIn p) (r .holding)) (r .budget)
     shown-passes =
-        let h = kept-shown (p .period) (tasksIn p) (locksIn p) (pair (r .budget) (r .holding)) (k .kept) in
-        let b = budget-iff (p .period) (tasksIn p) (locksIn p) (shownCeiling (tasksIn p) (r .holding)) (r .budget) .0 (h .0) in
+        let h = kept-shown (p .period) (tasksIn p) (lockCount p) (pair (r .budget) (r .holding)) (k .kept) in
+        let b = budget-iff (p .period) (tasksIn p) (lockCount p) (shownCeiling (tasksIn p) (r .holding)) (r .budget) .0 (h .0) in
         record { allowed = h .2; some = b .0 .positive; most = b .1; passing = b .0 .passes }
 
     pub shown-row : r ≡ rowUnder p (shownCeiling (tasksIn p) (r .holding)) (r .budget)
     shown-row =
-        let h = kept-shown (p .period) (tasksIn p) (locksIn p) (pair (r .budget) (r .holding)) (k .kept) in
+        let h = kept-shown (p .period) (tasksIn p) (lockCount p) (pair (r .budget) (r .holding)) (k .kept) in
         λ i. record { period = k .period i; budget = r .budget; holding = sym (h .1) i }
 
     pub kept-chosen : Chosen p r
@@ -103,9 +103,9 @@ module _ (p : FilePart) where
   unfolding keptRows keptPairs
   kept-under r c =
       let b = c .local in
-      let h = kept-covers (p .period) (tasksIn p) (locksIn p) (c .setting) (c .budget) (b .allowed) (b .some) (b .most) (b .passing) in
+      let h = kept-covers (p .period) (tasksIn p) (lockCount p) (c .setting) (c .budget) (b .allowed) (b .some) (b .most) (b .passing) in
       let s = rowOf p (h .0) in
-      let k : FromKept p s = record { kept = kept-iff (p .period) (tasksIn p) (locksIn p) (h .0) .0 (h .1); period = refl } in
+      let k : FromKept p s = record { kept = kept-iff (p .period) (tasksIn p) (lockCount p) (h .0) .0 (h .1); period = refl } in
       (s, k, subst (Under s) (sym (c .is)) (record { period = refl; sums = h .2 .sum; holds = h .2 .holding }))
 
   -- no kept row: no row can be chosen; a kept row: one can
@@ -126,7 +126,7 @@ module _ (p : FilePart) where
 
   pub keptRows-fall : Falling (keptRows p)
   unfolding keptRows keptPairs
-  keptRows-fall = rows-fall (kept-ordered (p .period) (tasksIn p) (locksIn p))
+  keptRows-fall = rows-fall (kept-ordered (p .period) (tasksIn p) (lockCount p))
 
 pub keptRows-sorted : (ps : List FilePart) → Sorted (map keptRows ps)
 keptRows-sorted [] = no-part

@@ -16,17 +16,17 @@ use Rattle.candidates.specs.Statement.{Permitted, IsKept}
 use Rattle.load.specs.declared.Row.{Row}
 use Rattle.load.specs.Load.{row, passesSystem}
 use Rattle.plan_file.specs.Above.{FilePart}
-use Rattle.plan_file.specs.Numbers.{locksIn, tasksIn}
+use Rattle.plan_file.specs.Numbers.{lockCount, tasksIn}
 
 -- a budget that passes under a permitted setting of the part
 pub record Budgeted (p : FilePart) (σ : Setting) (Q : ℕ) : Type 0 where
-  pub allowed : Permitted (tasksIn p) (locksIn p) σ
+  pub allowed : Permitted (tasksIn p) (lockCount p) σ
   pub some : 1 ≤ Q
   pub most : Q ≤ p .period
-  pub passing : passes (p .period) (tasksIn p) (locksIn p) σ Q ≡ true
+  pub passing : passes (p .period) (tasksIn p) (lockCount p) σ Q ≡ true
 
 abbrev pub rowUnder : FilePart → Setting → ℕ → Row
-rowUnder p σ Q = row (p .period) Q (holdingTimeOf (tasksIn p) (locksIn p) σ)
+rowUnder p σ Q = row (p .period) Q (holdingTimeOf (tasksIn p) (lockCount p) σ)
 
 pub record Chosen (p : FilePart) (r : Row) : Type 0 where
   pub setting : Setting
@@ -42,5 +42,5 @@ pub record PassingChoice (ps : List FilePart) (rs : List Row) : Type 0 where
   pub system : passesSystem rs ≡ true
 
 pub record FromKept (p : FilePart) (r : Row) : Type 0 where
-  pub kept : IsKept (p .period) (tasksIn p) (locksIn p) (record { budget = r .budget; holding = r .holding })
+  pub kept : IsKept (p .period) (tasksIn p) (lockCount p) (record { budget = r .budget; holding = r .holding })
   pub period : r .period ≡ p .period

@@ -12,11 +12,11 @@ use Rattle.candidates.specs.Candidates.{keptList, shownCeiling}
 use Rattle.load.specs.declared.Row.{Row}
 use Rattle.load.specs.Load.{row}
 use Rattle.plan_file.specs.Above.{FilePart, lockNames}
-use Rattle.plan_file.specs.Numbers.{locksIn, tasksIn}
+use Rattle.plan_file.specs.Numbers.{lockCount, tasksIn}
 use Rattle.listing.specs.Listing.{Share, ceilingsUnder}
 
 unfoldable pub keptPairs : FilePart → List Pair
-keptPairs p = keptList (p .period) (tasksIn p) (locksIn p)
+keptPairs p = keptList (p .period) (tasksIn p) (lockCount p)
 
 abbrev pub rowOf : FilePart → Pair → Row
 rowOf p c = row (p .period) (c .budget) (c .holding)

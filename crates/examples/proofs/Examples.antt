@@ -9,7 +9,7 @@ pub examples : AllHold table
 unfolding opened
 examples =
     refl  -- A
-    and refl and refl  -- B
+    and refl and refl and refl  -- B
     and refl and refl  -- C
     and refl  -- D
     and refl  -- E

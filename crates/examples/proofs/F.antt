@@ -19,7 +19,7 @@ use Rattle.budget.specs.Budget.{passes, leastBudget}
 use Rattle.budget.proofs.Passing.{budget-after}
 use Rattle.candidates.specs.declared.Pair.{Pair}
 use Rattle.candidates.specs.Candidates.{pair, withCeiling, settings, candidateOf, candidatesIn, keptAmong, keptList}
-use Rattle.plan_file.specs.Numbers.{tasksIn, locksIn}
+use Rattle.plan_file.specs.Numbers.{tasksIn, lockCount}
 use Rattle.plan_file.specs.Reading.{readFile}
 use Rattle.answers.specs.Parts.{keptPairs}
 use Rattle.answers.specs.Answers.{candidatesOf}
@@ -113,7 +113,7 @@ unfolding keptList
 kept-six = ap keptAmong candidates-six ∙ kept-among
 
 -- what the file says
-pub tasks-F : (tasksIn (partAt fileF 1) ≡ six) × (locksIn (partAt fileF 1) ≡ 2) × (partAt fileF 1 .period ≡ 250)
+pub tasks-F : (tasksIn (partAt fileF 1) ≡ six) × (lockCount (partAt fileF 1) ≡ 2) × (partAt fileF 1 .period ≡ 250)
 unfolding opened
 tasks-F = (refl, refl, refl)
 

@@ -25,7 +25,7 @@ use Rattle.load.specs.Weigh.{weighOf}
 use Rattle.plan_file.specs.Above.{FilePart, noPart}
 use Rattle.fields.specs.Fields.{isNumber}
 use Rattle.plan_file.specs.Reading.{readFile}
-use Rattle.plan_file.specs.Numbers.{tasksIn, locksIn}
+use Rattle.plan_file.specs.Numbers.{tasksIn, lockCount}
 use Rattle.answers.specs.Answers.{planOf, candidatesOf, supplyAnswer}
 use Rattle.examples.specs.Files.{fileA, listingA, cardAt, listingC, listingD, fileF, onePart, listingI}
 
@@ -73,7 +73,7 @@ Holds (prints file listing) = planOf file 8192 ≡ answered listing
 Holds (refuses file number place) = refusalOf (planOf file 8192) ≡ record { number = number; place = place }
 Holds (sameFile file other) = file ≡ other
 Holds (offers file k ceilings c) =
-    let p = partAt file k in candidateOf (p .period) (tasksIn p) (locksIn p) (λ l. nthOr 0 l ceilings) ≡ c ∷ []
+    let p = partAt file k in candidateOf (p .period) (tasksIn p) (lockCount p) (λ l. nthOr 0 l ceilings) ≡ c ∷ []
 Holds (drops file k c) = isOn c (candidatesOf file k) ≡ false
 Holds (keeps file k kept) = candidatesOf file k ≡ answered kept
 Holds (weighs rows bounds load row) = weighOf rows ≡ record { outcome = Done; bounds = pad 16 (frac 0 0) bounds; load = load; row = row }
@@ -92,6 +92,7 @@ table =
     at "A" (prints fileA listingA)
     ∷ at "B" (offers fileA 2 (1 ∷ []) (pair 2 5))
     ∷ at "B" (drops fileA 2 (pair 2 5))
+    ∷ at "B" (keeps fileA 2 (pair 3 3 ∷ []))
     ∷ at "C" (sameFile (cardAt 20) fileA)
     ∷ at "C" (prints (cardAt 10) listingC)
     ∷ at "D" (prints (cardAt 9) listingD)

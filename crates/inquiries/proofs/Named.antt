@@ -25,7 +25,7 @@ use Rattle.plan_file.specs.Entries.{noSpan}
 use Rattle.plan_file.specs.Stretches.{nameSpans}
 use Rattle.reader.specs.declared.PartRead.{PartRead}
 use Rattle.reader.specs.declared.PlanFile.{PlanFile}
-use Rattle.reader.specs.Reader.{ReadPart, blankPart, numbersOf, partOf, ReadIs}
+use Rattle.reader.specs.Reader.{ReadPart, blankPart, asRead, partOf, ReadIs}
 use Rattle.reader.proofs.Handed.{Handed, part-handed}
 use Rattle.answers.specs.Answers.{isPartNumber, nameOf, nameBytes}
 use Rattle.inquiries.specs.Stretch.{noName, stretched, nameStretch, StretchIs}
@@ -48,7 +48,7 @@ module _ (s : List ℕ) (k : ℕ) (f : PlanFile) (h : Handed s f) where
   name-not-given e = rw (h .reads) (simp (number-is ∙ e))
 
 name-at : (s : List ℕ) (f : PlanFile) (h : Handed s f) (j : ℕ) (d : PartRead) → j < f .count → getD (h .parts) j noPart .name ≡ bytesOf s (getD (f .parts) j d .name)
-unfolding numbersOf partOf
+unfolding asRead partOf
 name-at s f h j d l = ap (λ (p : ReadPart). p .name) (part-handed s f h j d l)
 
 pub name-is : (s : List ℕ) (k : ℕ) (f : PlanFile) (h : Handed s f) (d : PartRead) → 1 ≤ k → k ≤ f .count → nthOr noPart k (h .parts) .name ≡ bytesOf s (getD (f .parts) (k - 1) d .name)

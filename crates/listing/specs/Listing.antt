@@ -2,8 +2,11 @@
 --   Ceiling    == a lock's name and its ceiling, a task number
 --   Share      == what is printed of a part: its name, its row, the row's bound, and its locks' ceilings in order of first mention
 --   ceilingsUnder σ l names == the locks of these names, numbered from l on, each at its ceiling under the setting σ
---   shareLines == `share` name P Q X L t, then a `ceiling` line for each lock
+--   ceilingLine == `ceiling` lock, task number
+--   shareLine  == `share` name P Q X L t
+--   shareLines == that line, then a `ceiling` line for each lock
 --   loadLine   == `load` name L t of a share
+--   loadShare  == the first share that reaches the load, as a list of one
 --   listingOf  == the `load` line of the first share that reaches the load, then every share in file order
 --   refusedLine == `refused` number place
 -- Assumes nothing.

@@ -12,18 +12,18 @@ use Rattle.least.proofs.Iterate.{Mono}
 use Rattle.demand.specs.Demand.{demandFrom, FineDemand}
 use Rattle.demand.proofs.Demand.{demand-same}
 use Rattle.load.specs.Load.{row, loadAt, ratio, boundOf}
-use Rattle.load.specs.ByColumn.{sharesOf, SameUntil}
+use Rattle.load.specs.ByColumn.{rowsCosting, SameUntil}
 use Rattle.load.proofs.Load.{loadAt-mono-t}
-use Rattle.load.proofs.Shares.{shares-demand, shares-periods}
+use Rattle.load.proofs.Costing.{costing-demand, costing-periods}
 use Rattle.load.proofs.LeastRatio.{Best, best-start, best-stays, best-falls}
 
 module _ (periods sums : List ℕ) (n s period own : ℕ) where
   abbrev pub loadBy : ℕ → ℕ
-  loadBy t = loadAt [] (row period own 0) (drop s (sharesOf periods sums n)) t
+  loadBy t = loadAt [] (row period own 0) (drop s (rowsCosting periods sums n)) t
 
   pub loadBy-is : (t : ℕ) → loadBy t ≡ own + demandFrom periods sums n s t
   unfolding loadAt greatest
-  loadBy-is t = omega (arith, shares-demand periods sums n s t)
+  loadBy-is t = omega (arith, costing-demand periods sums n s t)
 
   -- the least ratio of the times up to `done`
   abbrev pub BestBy : ℕ → ℕ → ℕ → Type 0
@@ -32,13 +32,13 @@ module _ (periods sums : List ℕ) (n s period own : ℕ) where
   pub bound-start : (num : ℕ) → num ≡ period + 1 → BestBy 0 num period
   bound-start num e = rw e (best-start loadBy period)
 
-  pub bound-end : (done num den : ℕ) → BestBy done num den → period ≤ done → boundOf [] (row period own 0) (drop s (sharesOf periods sums n)) ≡ ratio num den
+  pub bound-end : (done num den : ℕ) → BestBy done num den → period ≤ done → boundOf [] (row period own 0) (drop s (rowsCosting periods sums n)) ≡ ratio num den
   unfolding boundOf
   bound-end done num den b l = let e : period ≡ done = omega (arith, b .within) in ap (λ (k : ℕ). leastOver k (λ t. ratio (loadBy t) t)) e ∙ b .value
 
   module _ (fine : FineDemand periods sums n) (some : 1 ≤ own) where
     pub loadBy-mono : Mono loadBy
-    loadBy-mono v w l = loadAt-mono-t [] (row period own 0) (drop s (sharesOf periods sums n)) (shares-periods periods sums n (fine .fine) s) l
+    loadBy-mono v w l = loadAt-mono-t [] (row period own 0) (drop s (rowsCosting periods sums n)) (costing-periods periods sums n (fine .fine) s) l
 
     pub loadBy-some : (t : ℕ) → 1 ≤ loadBy t
     loadBy-some t = omega (arith, loadBy-is t)

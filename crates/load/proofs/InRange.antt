@@ -69,7 +69,7 @@ in-range-fine rows i = record { few = i .few; room = i .room; each = each }
 module _ (rows : Rows) (fine : FineRows rows) (c : RowColumns) (are : ColumnsAre rows c) where
   pub columns-fine : FineColumns (c .periods) (c .sums) (c .holdings) (rows .count)
   columns-fine = record {
-    shares = record {
+    demand = record {
       fine = record { few = fine .few; some = λ k h. rw (are .periods k h) (fine .each k h .period-some); most = λ k h. rw (are .periods k h) (fine .each k h .period-most) };
       most = λ k h. let f = fine .each k h in omega (arith, are .sums k h, f);
     };

@@ -1,6 +1,6 @@
 pub mod Equal
 pub mod Load
-pub mod Shares
+pub mod Costing
 pub mod Stretch
 pub mod LeastRatio
 pub mod BoundBy

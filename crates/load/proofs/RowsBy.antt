@@ -17,10 +17,10 @@ use Rattle.demand.specs.Demand.{demandFrom}
 use Rattle.demand.proofs.Demand.{list-demand}
 use Rattle.load.specs.declared.Row.{Row}
 use Rattle.load.specs.Load.{row, rowSum, demandOf, loadAt, ratio, boundOf, boundsOf}
-use Rattle.load.specs.ByColumn.{sharesOf, rowAt, rowsBy, FineColumns}
+use Rattle.load.specs.ByColumn.{rowsCosting, rowAt, rowsBy, FineColumns}
 use Rattle.load.specs.Code.{noRow, noFrac}
 use Rattle.load.proofs.Load.{heldBelow, boundsOf-length}
-use Rattle.load.proofs.Shares.{shares-demand}
+use Rattle.load.proofs.Costing.{costing-demand}
 
 -- only the period, what a row costs with its blocking, and what the higher rows ask for count
 pub bound-alike : (lower higher others : List Row) (r : Row) (own : ℕ) → own ≡ rowSum r + heldBelow lower → ((t : ℕ) → demandOf higher t ≡ demandOf others t) → boundOf lower r higher ≡ boundOf [] (row (r .period) own 0) others
@@ -63,18 +63,18 @@ module _ (periods sums holdings : List ℕ) (n : ℕ) where
         (λ k h. ap (λ (r : Row). r .period) (rows-get k h)) (λ k h. let e = ap rowSum (rows-get k h) in omega (arith, fine .holds k h)) t s
 
     -- the bound of the row at the place k
-    pub bound-at : (k : ℕ) → k < n → getD (boundsOf (rowsBy periods sums holdings n)) k noFrac ≡ boundOf [] (row (getD periods k 0) (getD sums k 0 + blockingAt k) 0) (drop (k + 1) (sharesOf periods sums n))
+    pub bound-at : (k : ℕ) → k < n → getD (boundsOf (rowsBy periods sums holdings n)) k noFrac ≡ boundOf [] (row (getD periods k 0) (getD sums k 0 + blockingAt k) 0) (drop (k + 1) (rowsCosting periods sums n))
     unfolding boundsOf
     bound-at k h =
         let R = rowsBy periods sums holdings n in
         let e : getD sums k 0 + blockingAt k ≡ rowSum (rowAt periods sums holdings k) + blockingAt k = omega (arith, fine .holds k h) in
         along-at boundOf noRow noFrac R k (omega (arith, rows-length)) ∙ ap (λ (r : Row). boundOf (reverse (take k R)) r (drop (suc k) R)) (rows-get k h)
-        ∙ bound-alike (reverse (take k R)) (drop (suc k) R) (drop (k + 1) (sharesOf periods sums n)) (rowAt periods sums holdings k) _ e (λ t. rw add-one (rows-demand (suc k) t ∙ sym (shares-demand periods sums n (suc k) t)))
+        ∙ bound-alike (reverse (take k R)) (drop (suc k) R) (drop (k + 1) (rowsCosting periods sums n)) (rowAt periods sums holdings k) _ e (λ t. rw add-one (rows-demand (suc k) t ∙ sym (costing-demand periods sums n (suc k) t)))
 
     -- the loop over all rows
     pub bounds-start : replicate 16 noFrac ≡ pad 16 noFrac (take 0 (boundsOf (rowsBy periods sums holdings n)))
     bounds-start = pad-none 16 noFrac
 
-    pub bounds-next : (k : ℕ) (b : Frac) → k < n → b ≡ boundOf [] (row (getD periods k 0) (getD sums k 0 + blockingAt k) 0) (drop (k + 1) (sharesOf periods sums n)) → set (pad 16 noFrac (take k (boundsOf (rowsBy periods sums holdings n)))) k b ≡ pad 16 noFrac (take (k + 1) (boundsOf (rowsBy periods sums holdings n)))
+    pub bounds-next : (k : ℕ) (b : Frac) → k < n → b ≡ boundOf [] (row (getD periods k 0) (getD sums k 0 + blockingAt k) 0) (drop (k + 1) (rowsCosting periods sums n)) → set (pad 16 noFrac (take k (boundsOf (rowsBy periods sums holdings n)))) k b ≡ pad 16 noFrac (take (k + 1) (boundsOf (rowsBy periods sums holdings n)))
     bounds-next k b h e =
-        pad-next 16 noFrac (boundsOf (rowsBy periods sums holdings n)) k b noFrac (omega (arith, boundsOf-length (rowsBy periods sums holdings n), rows-length)) (omega (arith, fine .shares .fine .few)) (e ∙ sym (bound-at k h))
+        pad-next 16 noFrac (boundsOf (rowsBy periods sums holdings n)) k b noFrac (omega (arith, boundsOf-length (rowsBy periods sums holdings n), rows-length)) (omega (arith, fine .demand .fine .few)) (e ∙ sym (bound-at k h))

@@ -22,11 +22,12 @@ use Rattle.refusal.specs.declared.Refusal.the-variants.{BadHandSet, NoTime}
 use Rattle.refusal.specs.Limits.{rowLimit}
 use Rattle.refusal.specs.FirstNo.{allYes}
 use Rattle.refusal.proofs.Questions.{yes-next, no-answers, done-iff}
+use Rattle.refusal.specs.Questions.{firstNo}
 use Rattle.load.specs.declared.Row.{Row}
 use Rattle.load.specs.declared.Rows.{Rows}
 use Rattle.load.specs.declared.Weighed.{Weighed}
 use Rattle.load.specs.Load.{boundOf, boundsOf, loadOf, loadRow}
-use Rattle.load.specs.Weigh.{rowInRange, hasTime, weighQuestions, weighed, weighOf, rowsOf, weighRows}
+use Rattle.load.specs.Weigh.{rowInRange, hasTime, weighQuestions, weighed, weighOf, rowsOf, structQuestions, weighRows}
 use Rattle.load.specs.Code.{noRow, noFrac, InRange, FineBound, FineBounds}
 use Rattle.load.proofs.Load.{boundOf-ok, boundOf-small, boundsOf-length}
 use Rattle.load.proofs.InRange.{in-range-fine}
@@ -61,20 +62,20 @@ module _ (rows : List Row) where
 
 -- the struct
 module _ (rows : Rows) where
+  pub weigh-few : rows .count ≤ 16 → weighRows rows ≡ weighOf (rowsOf rows)
+  unfolding weighRows structQuestions firstNo weighOf
+  weigh-few h = rw (le-leb _ _ h) refl
+
   pub weigh-none : rows .count < 1 → weighRows rows ≡ weighed (Refused (BadHandSet 0)) []
-  unfolding weighRows rowsOf
+  unfolding rowsOf
   weigh-none h =
       let l : length (rowsOf rows) < 1 = omega (arith, length-take (rows .count) (rows .rows)) in
       let m : rows .count ≤ 16 = omega arith in
-      rw (le-leb _ _ m) (wrong-count (rowsOf rows) (simp (lt-leb _ _ l)))
+      weigh-few m ∙ wrong-count (rowsOf rows) (simp (lt-leb _ _ l))
 
   pub weigh-many : 16 < rows .count → weighRows rows ≡ weighed (Refused (BadHandSet 0)) []
-  unfolding weighRows
-  weigh-many h = rw (lt-leb _ _ h)
-
-  pub weigh-few : rows .count ≤ 16 → weighRows rows ≡ weighOf (rowsOf rows)
-  unfolding weighRows
-  weigh-few h = rw (le-leb _ _ h)
+  unfolding weighRows structQuestions firstNo weighed
+  weigh-many h = rw (lt-leb _ _ h) refl
 
   module _ (some : 1 ≤ rows .count) (few : rows .count ≤ 16) (room : rows .count ≤ length (rows .rows)) where
     rows-count : length (rowsOf rows) ≡ rows .count

@@ -1,5 +1,5 @@
 -- Rows by columns, one array for each of their numbers: what a loop reads, where the struct would be copied.
---   sharesOf periods sums n == n rows with these periods, each of which costs what `sums` has for it
+--   rowsCosting periods sums n == n rows with these periods, each of which costs what `sums` has for it
 --   rowsBy periods sums holdings n == n rows with these periods, costs and holding times
 --   FineColumns periods sums holdings n == their numbers are in range (`demand FineDemand`), and each row costs something, and no less than it holds
 --   SameUntil periods n s t most e == e is from t to `most`, and in e ticks each row from the place s on comes as often as in t ticks
@@ -15,11 +15,11 @@ use Rattle.load.specs.declared.Row.{Row}
 use Rattle.load.specs.Load.{row}
 
 -- the one at the place k, from 0
-abbrev pub shareAt : List ℕ → List ℕ → ℕ → Row
-shareAt periods sums k = row (getD periods k 0) (getD sums k 0) 0
+abbrev pub rowCosting : List ℕ → List ℕ → ℕ → Row
+rowCosting periods sums k = row (getD periods k 0) (getD sums k 0) 0
 
-unfoldable pub sharesOf : List ℕ → List ℕ → ℕ → List Row
-sharesOf periods sums n = map (shareAt periods sums) (countFrom 0 n)
+unfoldable pub rowsCosting : List ℕ → List ℕ → ℕ → List Row
+rowsCosting periods sums n = map (rowCosting periods sums) (countFrom 0 n)
 
 abbrev pub rowAt : List ℕ → List ℕ → List ℕ → ℕ → Row
 rowAt periods sums holdings k = row (getD periods k 0) (getD sums k 0 - getD holdings k 0) (getD holdings k 0)
@@ -28,7 +28,7 @@ unfoldable pub rowsBy : List ℕ → List ℕ → List ℕ → ℕ → List Row
 rowsBy periods sums holdings n = map (rowAt periods sums holdings) (countFrom 0 n)
 
 pub record FineColumns (periods sums holdings : List ℕ) (n : ℕ) : Type 0 where
-  pub shares : FineDemand periods sums n
+  pub demand : FineDemand periods sums n
   pub some : (k : ℕ) → k < n → 1 ≤ getD sums k 0
   pub holds : (k : ℕ) → k < n → getD holdings k 0 ≤ getD sums k 0
 

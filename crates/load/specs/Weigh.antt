@@ -4,10 +4,11 @@
 --   weighOf rows == the answer, for every list of rows
 --   rowsOf rows  == the rows that the struct `Rows` holds
 --   rowsFrom rows n == these rows in the struct `Rows`, with the count n
---   weighRows rows == the answer, for every such struct: a count above its sixteen places is a wrong row count too
+--   structQuestions rows == the questions of such a struct: a count above its sixteen places is a wrong row count too
+--   weighRows rows == the answer, for every such struct
 -- Assumes nothing.
 use Prim.Native.Nat.{ℕ}
-use mathlib.Core.Bool.{Bool, not, cond, _&&_}
+use mathlib.Core.Bool.{Bool, not, _&&_}
 use mathlib.Core.List.{List, [], _∷_}
 use lib.Dec.{leb}
 use lib.ListN.{length, take}
@@ -51,5 +52,8 @@ rowsOf rows = take (rows .count) (rows .rows)
 abbrev pub rowsFrom : List Row → ℕ → Rows
 rowsFrom rows n = record { rows = pad rowLimit (row 0 0 0) rows; count = n }
 
+unfoldable pub structQuestions : Rows → List Question
+structQuestions rows = ask (BadHandSet 0) (leb (rows .count) rowLimit) ∷ weighQuestions (rowsOf rows)
+
 unfoldable pub weighRows : Rows → Weighed
-weighRows rows = cond (leb (rows .count) rowLimit) (weighOf (rowsOf rows)) (weighed (Refused (BadHandSet 0)) [])
+weighRows rows = weighed (firstNo (structQuestions rows)) (rowsOf rows)

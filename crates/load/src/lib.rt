@@ -15,7 +15,7 @@ ghost use Rattle.demand.specs.Demand.{FinePeriods, FineDemand};
 ghost use Rattle.refusal.specs.declared.Outcome.the-variants.{Refused};
 ghost use Rattle.load.specs.Load.{row, rowSum, ratio, boundOf, boundsOf};
 ghost use Rattle.load.specs.Weigh.{rowInRange, hasTime, weighed, weighOf, rowsOf, weighRows};
-ghost use Rattle.load.specs.ByColumn.{sharesOf, rowsBy, FineColumns, SameUntil};
+ghost use Rattle.load.specs.ByColumn.{rowsCosting, rowsBy, FineColumns, SameUntil};
 ghost use Rattle.load.specs.Code.{noFrac, FineRows, ColumnsAre, InRange, FineBounds};
 
 // A row: a period P, a budget Q and a holding time X.
@@ -96,7 +96,7 @@ pub fn bound_of(
     own: u64,
 ) -> Frac
     requires { ⌜ FineDemand (now periods) (now sums) n × (1 ≤ period) × (period ≤ 2 ^ 20) × (1 ≤ own) × (own ≤ 2 ^ 23) ⌝ }
-    ensures { λ r. ⌜ r ≡ boundOf [] (row period own 0) (drop s (sharesOf (now (periods .entry)) (now (sums .entry)) n)) ⌝ }
+    ensures { λ r. ⌜ r ≡ boundOf [] (row period own 0) (drop s (rowsCosting (now (periods .entry)) (now (sums .entry)) n)) ⌝ }
 {
     let mut num = period + 1;
     let mut den = period;

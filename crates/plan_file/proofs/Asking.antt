@@ -22,7 +22,7 @@ use Rattle.plan_file.specs.declared.Names.{Names}
 use Rattle.plan_file.specs.declared.Times.the-variants.{Are, Malformed}
 use Rattle.plan_file.specs.declared.Entry.the-variants.{Part, Task, Lock, Refused as RefusedEntry}
 use Rattle.plan_file.specs.Reading.{partQuestions, taskQuestions, lockQuestions}
-use Rattle.plan_file.specs.Entries.{namesOf, FineNames, placeOf, timesIn, entryIf, partEntry, taskEntry, useAt, lockEntry}
+use Rattle.plan_file.specs.Entries.{namesOf, FineNames, placeAmong, timesIn, entryIf, partEntry, taskEntry, useAt, lockEntry}
 use Rattle.plan_file.proofs.Places.{among-place, mention-limit, names-length}
 
 -- a number field that was read
@@ -101,11 +101,11 @@ named-by-tests allowed good name a is g = record { here = not-false allowed a; g
 
 -- question 6 of a part or a task, and whether there is room for one name more
 module _ (s : List ℕ) (names : Names) (fine : FineNames names) where
-  known-name : (name : List ℕ) → placeOf name (namesOf s names) < names .count → among name (namesOf s names) ≡ true
-  known-name name l = among-place name (namesOf s names) ∙ lt-ltb (placeOf name (namesOf s names)) (length (namesOf s names)) (omega (arith, names-length s names fine))
+  known-name : (name : List ℕ) → placeAmong name (namesOf s names) < names .count → among name (namesOf s names) ≡ true
+  known-name name l = among-place name (namesOf s names) ∙ lt-ltb (placeAmong name (namesOf s names)) (length (namesOf s names)) (omega (arith, names-length s names fine))
 
-  new-name : (name : List ℕ) → names .count ≤ placeOf name (namesOf s names) → among name (namesOf s names) ≡ false
-  new-name name l = among-place name (namesOf s names) ∙ le-ltb (placeOf name (namesOf s names)) (length (namesOf s names)) (omega (arith, names-length s names fine))
+  new-name : (name : List ℕ) → names .count ≤ placeAmong name (namesOf s names) → among name (namesOf s names) ≡ false
+  new-name name l = among-place name (namesOf s names) ∙ le-ltb (placeAmong name (namesOf s names)) (length (namesOf s names)) (omega (arith, names-length s names fine))
 
   no-room : 16 ≤ names .count → leb (suc (length (namesOf s names))) 16 ≡ false
   no-room l = lt-leb (suc (length (namesOf s names))) 16 (omega (arith, names-length s names fine))
@@ -123,19 +123,19 @@ module _ (s : List ℕ) (n : ℕ) (allowed : Bool) (parts : Names) (name P : Spa
   unfolding partEntry partQuestions firstNo entryIf
   part-misnamed a b = simp (a, b)
 
-  pub part-known : Named allowed (bytesOf s name) → placeOf (bytesOf s name) (namesOf s parts) < parts .count → RefusedEntry (KnownName n) ≡ partEntry s n allowed parts name P
+  pub part-known : Named allowed (bytesOf s name) → placeAmong (bytesOf s name) (namesOf s parts) < parts .count → RefusedEntry (KnownName n) ≡ partEntry s n allowed parts name P
   unfolding partEntry partQuestions firstNo entryIf
   part-known a l = simp (a .here, a .good, known-name s parts fine (bytesOf s name) l)
 
-  pub part-misnumbered : Named allowed (bytesOf s name) → parts .count ≤ placeOf (bytesOf s name) (namesOf s parts) → isNumber (bytesOf s P) ≡ false → RefusedEntry (BadNumber n) ≡ partEntry s n allowed parts name P
+  pub part-misnumbered : Named allowed (bytesOf s name) → parts .count ≤ placeAmong (bytesOf s name) (namesOf s parts) → isNumber (bytesOf s P) ≡ false → RefusedEntry (BadNumber n) ≡ partEntry s n allowed parts name P
   unfolding partEntry partQuestions firstNo entryIf
   part-misnumbered a l b = simp (a .here, a .good, new-name s parts fine (bytesOf s name) l, b)
 
-  pub part-too-many : {v : ℕ} → Named allowed (bytesOf s name) → parts .count ≤ placeOf (bytesOf s name) (namesOf s parts) → NumberIs (bytesOf s P) v → 16 ≤ parts .count → RefusedEntry (TooMany n) ≡ partEntry s n allowed parts name P
+  pub part-too-many : {v : ℕ} → Named allowed (bytesOf s name) → parts .count ≤ placeAmong (bytesOf s name) (namesOf s parts) → NumberIs (bytesOf s P) v → 16 ≤ parts .count → RefusedEntry (TooMany n) ≡ partEntry s n allowed parts name P
   unfolding partEntry partQuestions firstNo entryIf
   part-too-many a l b h = simp (a .here, a .good, new-name s parts fine (bytesOf s name) l, b .good, no-room s parts fine h)
 
-  pub part-enters : {v : ℕ} → Named allowed (bytesOf s name) → parts .count ≤ placeOf (bytesOf s name) (namesOf s parts) → NumberIs (bytesOf s P) v → parts .count < 16 → Part name v ≡ partEntry s n allowed parts name P
+  pub part-enters : {v : ℕ} → Named allowed (bytesOf s name) → parts .count ≤ placeAmong (bytesOf s name) (namesOf s parts) → NumberIs (bytesOf s P) v → parts .count < 16 → Part name v ≡ partEntry s n allowed parts name P
   unfolding partEntry partQuestions firstNo entryIf
   part-enters a l b h = simp (a .here, a .good, new-name s parts fine (bytesOf s name) l, b .good, b .value, room s parts fine h)
 
@@ -149,32 +149,32 @@ module _ (s : List ℕ) (n : ℕ) (allowed : Bool) (tasks : Names) (name T C D :
   unfolding taskEntry taskQuestions firstNo entryIf
   task-misnamed a b = simp (a, b)
 
-  pub task-known : Named allowed (bytesOf s name) → placeOf (bytesOf s name) (namesOf s tasks) < tasks .count → RefusedEntry (KnownName n) ≡ taskEntry s n allowed tasks name T C D
+  pub task-known : Named allowed (bytesOf s name) → placeAmong (bytesOf s name) (namesOf s tasks) < tasks .count → RefusedEntry (KnownName n) ≡ taskEntry s n allowed tasks name T C D
   unfolding taskEntry taskQuestions firstNo entryIf
   task-known a l = simp (a .here, a .good, known-name s tasks fine (bytesOf s name) l)
 
-  pub task-misnumbered : Named allowed (bytesOf s name) → tasks .count ≤ placeOf (bytesOf s name) (namesOf s tasks) → numbers (bytesOf s T) (bytesOf s C) (bytesOf s D) ≡ false → RefusedEntry (BadNumber n) ≡ taskEntry s n allowed tasks name T C D
+  pub task-misnumbered : Named allowed (bytesOf s name) → tasks .count ≤ placeAmong (bytesOf s name) (namesOf s tasks) → numbers (bytesOf s T) (bytesOf s C) (bytesOf s D) ≡ false → RefusedEntry (BadNumber n) ≡ taskEntry s n allowed tasks name T C D
   unfolding taskEntry taskQuestions firstNo entryIf
   task-misnumbered a l b = simp (a .here, a .good, new-name s tasks fine (bytesOf s name) l, b)
 
-  pub task-cost-over-deadline : {t c d : ℕ} → Named allowed (bytesOf s name) → tasks .count ≤ placeOf (bytesOf s name) (namesOf s tasks) → TimesAre (bytesOf s T) (bytesOf s C) (bytesOf s D) t c d → d < c → RefusedEntry (BadOrder n) ≡ taskEntry s n allowed tasks name T C D
+  pub task-cost-over-deadline : {t c d : ℕ} → Named allowed (bytesOf s name) → tasks .count ≤ placeAmong (bytesOf s name) (namesOf s tasks) → TimesAre (bytesOf s T) (bytesOf s C) (bytesOf s D) t c d → d < c → RefusedEntry (BadOrder n) ≡ taskEntry s n allowed tasks name T C D
   unfolding taskEntry taskQuestions firstNo entryIf
   task-cost-over-deadline a l b h = simp (a .here, a .good, new-name s tasks fine (bytesOf s name) l, b .good, b .separation, b .cost, b .deadline, lt-leb _ _ h)
 
-  pub task-deadline-over-separation : {t c d : ℕ} → Named allowed (bytesOf s name) → tasks .count ≤ placeOf (bytesOf s name) (namesOf s tasks) → TimesAre (bytesOf s T) (bytesOf s C) (bytesOf s D) t c d → t < d → RefusedEntry (BadOrder n) ≡ taskEntry s n allowed tasks name T C D
+  pub task-deadline-over-separation : {t c d : ℕ} → Named allowed (bytesOf s name) → tasks .count ≤ placeAmong (bytesOf s name) (namesOf s tasks) → TimesAre (bytesOf s T) (bytesOf s C) (bytesOf s D) t c d → t < d → RefusedEntry (BadOrder n) ≡ taskEntry s n allowed tasks name T C D
   unfolding taskEntry taskQuestions firstNo entryIf
   task-deadline-over-separation a l b h = simp (a .here, a .good, new-name s tasks fine (bytesOf s name) l, b .good, b .separation, b .cost, b .deadline, lt-leb _ _ h, and-false)
 
-  pub task-too-many : {t c d : ℕ} → Named allowed (bytesOf s name) → tasks .count ≤ placeOf (bytesOf s name) (namesOf s tasks) → TimesAre (bytesOf s T) (bytesOf s C) (bytesOf s D) t c d → c ≤ d → d ≤ t → 16 ≤ tasks .count → RefusedEntry (TooMany n) ≡ taskEntry s n allowed tasks name T C D
+  pub task-too-many : {t c d : ℕ} → Named allowed (bytesOf s name) → tasks .count ≤ placeAmong (bytesOf s name) (namesOf s tasks) → TimesAre (bytesOf s T) (bytesOf s C) (bytesOf s D) t c d → c ≤ d → d ≤ t → 16 ≤ tasks .count → RefusedEntry (TooMany n) ≡ taskEntry s n allowed tasks name T C D
   unfolding taskEntry taskQuestions firstNo entryIf
   task-too-many a l b g k h = simp (a .here, a .good, new-name s tasks fine (bytesOf s name) l, b .good, b .separation, b .cost, b .deadline, le-leb _ _ g, le-leb _ _ k, no-room s tasks fine h)
 
-  pub task-enters : {t c d : ℕ} → Named allowed (bytesOf s name) → tasks .count ≤ placeOf (bytesOf s name) (namesOf s tasks) → TimesAre (bytesOf s T) (bytesOf s C) (bytesOf s D) t c d → c ≤ d → d ≤ t → tasks .count < 16 → Task name t c d ≡ taskEntry s n allowed tasks name T C D
+  pub task-enters : {t c d : ℕ} → Named allowed (bytesOf s name) → tasks .count ≤ placeAmong (bytesOf s name) (namesOf s tasks) → TimesAre (bytesOf s T) (bytesOf s C) (bytesOf s D) t c d → c ≤ d → d ≤ t → tasks .count < 16 → Task name t c d ≡ taskEntry s n allowed tasks name T C D
   unfolding taskEntry taskQuestions firstNo entryIf
   task-enters a l b g k h = simp (a .here, a .good, new-name s tasks fine (bytesOf s name) l, b .good, b .separation, b .cost, b .deadline, le-leb _ _ g, le-leb _ _ k, room s tasks fine h)
 
 -- of a `lock` whose name has the place j
-module _ (s : List ℕ) (n : ℕ) (allowed : Bool) (last : TaskNumbers) (locks : Names) (name held : Span) (fine : FineNames locks) (few : locks .count ≤ 8) (j : ℕ) (at : j ≡ placeOf (bytesOf s name) (namesOf s locks)) where
+module _ (s : List ℕ) (n : ℕ) (allowed : Bool) (last : TaskNumbers) (locks : Names) (name held : Span) (fine : FineNames locks) (few : locks .count ≤ 8) (j : ℕ) (at : j ≡ placeAmong (bytesOf s name) (namesOf s locks)) where
   mentions : leb (length (mention (namesOf s locks) (bytesOf s name))) lockLimit ≡ ltb j lockLimit
   mentions = rw at (mention-limit (namesOf s locks) (bytesOf s name) (omega (arith, names-length s locks fine)))
 

@@ -15,7 +15,7 @@ use Rattle.records.specs.Records.Record.{part, task, lock, end}
 use Rattle.plan_file.specs.declared.Seen.{Seen}
 use Rattle.plan_file.specs.Above.{FileLock, FileTask, FilePart, Above, noPart, nothingAbove, thisPart, thisTask, lockNames, withLock, withTasks, partsAfter, after}
 use Rattle.plan_file.specs.Reading.{isPart, isEnd, partNames, locksOf}
-use Rattle.plan_file.specs.Entries.{FineNames, FineSeen, noneSeen, namesOf, placeOf, seenPart, seenTask, seenLock, seenEnd}
+use Rattle.plan_file.specs.Entries.{FineNames, FineSeen, noneSeen, namesOf, placeAmong, seenPart, seenTask, seenLock, seenEnd}
 use Rattle.plan_file.proofs.Places.{names-length}
 use Rattle.plan_file.proofs.SeenNames.{names-with, fine-with, no-names, fine-none}
 use Rattle.plan_file.proofs.SeenTasks.{taskWith}
@@ -94,7 +94,7 @@ module _ (s : List ℕ) (seen : Seen) (a : Above) (is : SeenIs s seen a) where
     part = rw (this-part-task a (bytesOf s nm) T C D p) (part-is-task s (seen .tasks) (seen .locks) (seen .last) (thisPart a) (is .part) nm (taskOf (bytesOf s nm) T C D) h refl refl);
   }
 
-  pub seen-is-lock : (nm : Span) (c : List ℕ) → 1 ≤ length (a .parts) → 1 ≤ length (thisPart a .tasks) → 1 ≤ valueOf c → among (bytesOf s nm) (locksOf (thisTask a)) ≡ false → length (mention (lockNames (thisPart a)) (bytesOf s nm)) ≤ 8 → let j = placeOf (bytesOf s nm) (namesOf s (seen .locks)) in SeenIs s (seenLock seen nm j (storedUse (seen .last) j (valueOf c))) (after a (lock (bytesOf s nm) c))
+  pub seen-is-lock : (nm : Span) (c : List ℕ) → 1 ≤ length (a .parts) → 1 ≤ length (thisPart a .tasks) → 1 ≤ valueOf c → among (bytesOf s nm) (locksOf (thisTask a)) ≡ false → length (mention (lockNames (thisPart a)) (bytesOf s nm)) ≤ 8 → let j = placeAmong (bytesOf s nm) (namesOf s (seen .locks)) in SeenIs s (seenLock seen nm j (storedUse (seen .last) j (valueOf c))) (after a (lock (bytesOf s nm) c))
   unfolding seenLock isPart isEnd
   seen-is-lock nm c p t h new few = record {
     fine-parts = is .fine-parts;

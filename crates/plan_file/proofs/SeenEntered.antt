@@ -26,7 +26,7 @@ use Rattle.plan_file.specs.declared.Entry.{Entry}
 use Rattle.plan_file.specs.declared.Entry.the-variants.{Part, Task, Lock, End, Refused as RefusedEntry}
 use Rattle.plan_file.specs.Above.{FilePart, Above, noPart, thisPart, thisTask, lockNames}
 use Rattle.plan_file.specs.Reading.{notBehindEnd, notBehindPart, partAbove, taskAbove, allowedHere, recordQuestions, partNames, taskNames, locksOf}
-use Rattle.plan_file.specs.Entries.{namesOf, placeOf, entryIf, entryOf}
+use Rattle.plan_file.specs.Entries.{namesOf, placeAmong, entryIf, entryOf}
 use Rattle.plan_file.proofs.SeenPart.{task-count}
 use Rattle.plan_file.proofs.SeenAbove.{SeenIs, part-count}
 use Rattle.plan_file.proofs.SeenDone.{part-done, task-done, lock-done, end-done}
@@ -93,7 +93,7 @@ module _ (s : List ℕ) (seen : Seen) where
   task-record Unknown nm u v w e = absurd (omega (arith, ap kindOf e))
 
   abbrev IsLock : Shape → Span → ℕ → ℕ → Type 0
-  IsLock r nm j v = (c : List ℕ) × (recordAs s r ≡ lock (bytesOf s nm) c) × (j ≡ placeOf (bytesOf s nm) (namesOf s (seen .locks))) × (v ≡ valueOf c)
+  IsLock r nm j v = (c : List ℕ) × (recordAs s r ≡ lock (bytesOf s nm) c) × (j ≡ placeAmong (bytesOf s nm) (namesOf s (seen .locks))) × (v ≡ valueOf c)
 
   lock-record : (r : Shape) (nm : Span) (j v : ℕ) → entered s seen r ≡ Lock nm j v → IsLock r nm j v
   unfolding entered recordAs kindOf
@@ -146,7 +146,7 @@ pub record TaskEntered (s : List ℕ) (seen : Seen) (n : ℕ) (a : Above) (r : S
 pub record LockEntered (s : List ℕ) (seen : Seen) (n : ℕ) (a : Above) (r : Shape) (nm : Span) (j v : ℕ) : Type 0 where
   pub c : List ℕ
   pub is : recordAs s r ≡ lock (bytesOf s nm) c
-  pub place : j ≡ placeOf (bytesOf s nm) (namesOf s (seen .locks))
+  pub place : j ≡ placeAmong (bytesOf s nm) (namesOf s (seen .locks))
   pub value : v ≡ valueOf c
   pub done : AllDone s n a r
   pub part-above : 1 ≤ length (a .parts)

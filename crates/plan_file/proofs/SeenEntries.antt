@@ -26,7 +26,7 @@ use Rattle.plan_file.specs.declared.Entry.{Entry}
 use Rattle.plan_file.specs.declared.Entry.the-variants.{Part, Task, Lock, End}
 use Rattle.plan_file.specs.Above.{FileTask, FilePart, Above, noTask, thisPart, thisTask, lockNames}
 use Rattle.plan_file.specs.Reading.{allowedHere, lockQuestions, recordQuestions, locksOf}
-use Rattle.plan_file.specs.Entries.{namesOf, placeOf, useAt, entryIf, partEntry, taskEntry, lockEntry, endEntry, entryOf}
+use Rattle.plan_file.specs.Entries.{namesOf, placeAmong, useAt, entryIf, partEntry, taskEntry, lockEntry, endEntry, entryOf}
 use Rattle.plan_file.proofs.SeenLocks.{known-held, lock-unmentioned}
 use Rattle.plan_file.proofs.SeenTasks.{Unused, padded, padded-use}
 use Rattle.plan_file.proofs.SeenPart.{lastTask, task-count, lock-count}
@@ -47,11 +47,11 @@ last-unused name p e = go (p .tasks) refl
     go (t ∷ ts) h = lock-unmentioned name p (lastTask p) e (last-member noTask (p .tasks) (rw h (omega arith)))
 
 -- whether the last task has the lock, by its uses
-known-by-use : (s : List ℕ) (seen : Seen) (a : Above) → SeenIs s seen a → (name : List ℕ) → leb 1 (useAt (seen .last) (placeOf name (namesOf s (seen .locks)))) ≡ among name (locksOf (thisTask a))
+known-by-use : (s : List ℕ) (seen : Seen) (a : Above) → SeenIs s seen a → (name : List ℕ) → leb 1 (useAt (seen .last) (placeAmong name (namesOf s (seen .locks)))) ≡ among name (locksOf (thisTask a))
 known-by-use s seen a is name =
     let names = lockNames (thisPart a) in
     ap (leb 1)
-    (ap₂ (λ (t : TaskNumbers) (ns : List (List ℕ)). useAt t (placeOf name ns)) (is .part .last-is) (is .part .lock-names)
+    (ap₂ (λ (t : TaskNumbers) (ns : List (List ℕ)). useAt t (placeAmong name ns)) (is .part .last-is) (is .part .lock-names)
     ∙ padded-use names (thisTask a) name (omega (arith, lock-count s (seen .tasks) (seen .locks) (seen .last) (thisPart a) (is .part))) (last-unused name (thisPart a)))
     ∙ known-held name (thisTask a .locks) (is .part .held)
 
@@ -63,7 +63,7 @@ cost-of-last s seen a is = ap (λ (t : TaskNumbers). t .cost) (is .part .last-is
 unfoldable pub entered : List ℕ → Seen → Shape → Entry
 entered s seen (PartShape name P) = Part name (valueOf (bytesOf s P))
 entered s seen (TaskShape name T C D) = Task name (valueOf (bytesOf s T)) (valueOf (bytesOf s C)) (valueOf (bytesOf s D))
-entered s seen (LockShape name c) = Lock name (placeOf (bytesOf s name) (namesOf s (seen .locks))) (valueOf (bytesOf s c))
+entered s seen (LockShape name c) = Lock name (placeAmong (bytesOf s name) (namesOf s (seen .locks))) (valueOf (bytesOf s c))
 entered s seen EndShape = End
 entered s seen Unknown = End
 
@@ -78,7 +78,7 @@ module _ (s : List ℕ) (seen : Seen) (a : Above) (is : SeenIs s seen a) (n : �
   unfolding entryOf lockEntry recordQuestions recordAs allowedHere entered
   lock-entry-is name c =
       λ i. entryIf (firstNo (lockQuestions n (not (is .ended i) && task-above i) (known-by-use s seen a is (bytesOf s name) i) (is .part .lock-names i) (cost-of-last s seen a is i) (bytesOf s name) (bytesOf s c)))
-      (Lock name (placeOf (bytesOf s name) (namesOf s (seen .locks))) (valueOf (bytesOf s c)))
+      (Lock name (placeAmong (bytesOf s name) (namesOf s (seen .locks))) (valueOf (bytesOf s c)))
 
   pub entry-is : (r : Shape) → entryOf s n seen r ≡ entryIf (firstNo (recordQuestions n a (recordAs s r))) (entered s seen r)
   unfolding entryOf partEntry taskEntry endEntry entryIf firstNo recordQuestions recordAs allowedHere entered

@@ -16,30 +16,30 @@ use Rattle.text.proofs.Names.{among-none, among-cons, mention-known, mention-ne
 use Rattle.scan.specs.declared.Span.{Span}
 use Rattle.scan.specs.Scan.{bytesOf}
 use Rattle.plan_file.specs.declared.Names.{Names}
-use Rattle.plan_file.specs.Entries.{noSpan, noNames, FineNames, namesOf, placeOf, withName, withLockName}
+use Rattle.plan_file.specs.Entries.{noSpan, noNames, FineNames, namesOf, placeAmong, withName, withLockName}
 use Rattle.plan_file.proofs.Places.{place-first, place-later, place-most, among-place, names-length}
 
 -- the place of a name, by whether it is known
-pub place-known : (name : List ℕ) (ns : List (List ℕ)) → among name ns ≡ true → placeOf name ns < length ns
-place-known name ns e = ltb-true (placeOf name ns) (length ns) (sym (among-place name ns) ∙ e)
+pub place-known : (name : List ℕ) (ns : List (List ℕ)) → among name ns ≡ true → placeAmong name ns < length ns
+place-known name ns e = ltb-true (placeAmong name ns) (length ns) (sym (among-place name ns) ∙ e)
 
-pub place-new : (name : List ℕ) (ns : List (List ℕ)) → among name ns ≡ false → placeOf name ns ≡ length ns
-place-new name ns e = omega (arith, place-most name ns, ltb-false (placeOf name ns) (length ns) (sym (among-place name ns) ∙ e))
+pub place-new : (name : List ℕ) (ns : List (List ℕ)) → among name ns ≡ false → placeAmong name ns ≡ length ns
+place-new name ns e = omega (arith, place-most name ns, ltb-false (placeAmong name ns) (length ns) (sym (among-place name ns) ∙ e))
 
 -- where a name is mentioned among few, its place is one of few
-pub place-mention : (name : List ℕ) (ns : List (List ℕ)) (k : ℕ) → length (mention ns name) ≤ k → placeOf name ns < k
+pub place-mention : (name : List ℕ) (ns : List (List ℕ)) (k : ℕ) → length (mention ns name) ≤ k → placeAmong name ns < k
 place-mention name ns k h = go (among name ns) refl
   where
-    go : (b : Bool) → among name ns ≡ b → placeOf name ns < k
+    go : (b : Bool) → among name ns ≡ b → placeAmong name ns < k
     go true e = omega (arith, place-known name ns e, ap length (mention-known name ns e))
     go false e = omega (arith, place-new name ns e, simp length-append at (ap length (mention-new name ns e)))
 
 -- at its place stands what belongs to the name
-pub get-place : (g : List ℕ → ℕ) (name : List ℕ) (ns : List (List ℕ)) → (among name ns ≡ false → g name ≡ 0) → getD (map g ns) (placeOf name ns) 0 ≡ g name
+pub get-place : (g : List ℕ → ℕ) (name : List ℕ) (ns : List (List ℕ)) → (among name ns ≡ false → g name ≡ 0) → getD (map g ns) (placeAmong name ns) 0 ≡ g name
 get-place g name [] h = sym (h (among-none name))
 get-place g name (n ∷ ns) h = go (same name n) refl (get-place g name ns)
   where
-    go : (b : Bool) → same name n ≡ b → ((among name ns ≡ false → g name ≡ 0) → getD (map g ns) (placeOf name ns) 0 ≡ g name) → getD (map g (n ∷ ns)) (placeOf name (n ∷ ns)) 0 ≡ g name
+    go : (b : Bool) → same name n ≡ b → ((among name ns ≡ false → g name ≡ 0) → getD (map g ns) (placeAmong name ns) 0 ≡ g name) → getD (map g (n ∷ ns)) (placeAmong name (n ∷ ns)) 0 ≡ g name
     go true e ih = rw (place-first name n ns e) (ap g (sym (same-true name n e)))
     go false e ih = rw (place-later name n ns e) (ih (λ k. h (simp (among-cons name, e, k))))
 
@@ -53,11 +53,11 @@ module _ (g h : List ℕ → ℕ) (name : List ℕ) (others : (n : List ℕ) →
       go true k ih = let z : true ≡ false = simp (among-cons name, k) at e in absurd (false≢true (sym z))
       go false k ih = ap₂ _∷_ (others n k) (ih (simp (among-cons name, k) at e))
 
-  pub set-place : {ns : List (List ℕ)} → Different ns → among name ns ≡ true → set (map g ns) (placeOf name ns) (h name) ≡ map h ns
+  pub set-place : {ns : List (List ℕ)} → Different ns → among name ns ≡ true → set (map g ns) (placeAmong name ns) (h name) ≡ map h ns
   set-place none e = absurd (false≢true (sym (among-none name) ∙ e))
   set-place (more {n = n} {ns = ns} k d) e = go (same name n) refl (set-place d)
     where
-      go : (b : Bool) → same name n ≡ b → (among name ns ≡ true → set (map g ns) (placeOf name ns) (h name) ≡ map h ns) → set (map g (n ∷ ns)) (placeOf name (n ∷ ns)) (h name) ≡ map h (n ∷ ns)
+      go : (b : Bool) → same name n ≡ b → (among name ns ≡ true → set (map g ns) (placeAmong name ns) (h name) ≡ map h ns) → set (map g (n ∷ ns)) (placeAmong name (n ∷ ns)) (h name) ≡ map h (n ∷ ns)
       go true t ih =
           let q : name ≡ n = same-true name n t in
           rw (place-first name n ns t) (ap₂ _∷_ (ap h q) (map-others ns (ap (λ (x : List ℕ). among x ns) q ∙ k)))
@@ -90,15 +90,15 @@ module _ (s : List ℕ) (ns : Names) (p : Span) (fine : FineNames ns) where
   mentioned = mention (namesOf s ns) (bytesOf s p)
 
   abbrev withIt : Names
-  withIt = withLockName ns p (placeOf (bytesOf s p) (namesOf s ns))
+  withIt = withLockName ns p (placeAmong (bytesOf s p) (namesOf s ns))
 
   by-lock : (P : Names → Type 0) → (among (bytesOf s p) (namesOf s ns) ≡ true → P ns) → (among (bytesOf s p) (namesOf s ns) ≡ false → P (withName ns p)) → P withIt
   unfolding withLockName
   by-lock P f g = go (among (bytesOf s p) (namesOf s ns)) refl
     where
       go : (b : Bool) → among (bytesOf s p) (namesOf s ns) ≡ b → P withIt
-      go true e = rw (ne-eqb (placeOf (bytesOf s p) (namesOf s ns)) (ns .count) (λ k. omega (arith, place-known _ _ e, names-length s ns fine))) (f e)
-      go false e = rw (eq-eqb (placeOf (bytesOf s p) (namesOf s ns)) (ns .count) (place-new _ _ e ∙ names-length s ns fine)) (g e)
+      go true e = rw (ne-eqb (placeAmong (bytesOf s p) (namesOf s ns)) (ns .count) (λ k. omega (arith, place-known _ _ e, names-length s ns fine))) (f e)
+      go false e = rw (eq-eqb (placeAmong (bytesOf s p) (namesOf s ns)) (ns .count) (place-new _ _ e ∙ names-length s ns fine)) (g e)
 
   pub names-lock : ns .count < 16 → namesOf s withIt ≡ mentioned
   names-lock h = by-lock (λ m. namesOf s m ≡ mentioned) (λ e. sym (mention-known _ _ e)) (λ e. names-with s ns p fine h ∙ sym (mention-new _ _ e))

@@ -15,7 +15,7 @@ use Rattle.task_set.specs.declared.Task.{Task}
 use Rattle.plan_file.specs.declared.Names.{Names}
 use Rattle.plan_file.specs.Above.{FileLock, FileTask, FilePart, noTask, lockMentions, lockNames, withLock, withTasks}
 use Rattle.plan_file.specs.Reading.{taskNames, locksOf}
-use Rattle.plan_file.specs.Entries.{FineNames, noNames, noTaskRead, namesOf, placeOf, withName, withLockName}
+use Rattle.plan_file.specs.Entries.{FineNames, noNames, noTaskRead, namesOf, placeAmong, withName, withLockName}
 use Rattle.plan_file.proofs.Places.{names-length}
 use Rattle.plan_file.proofs.SeenNames.{names-with, fine-with, no-names, fine-none, names-lock, fine-lock}
 use Rattle.plan_file.proofs.SeenLocks.{AllHeld, lock-names-different, lock-names-task, lock-names-lock}
@@ -76,7 +76,7 @@ module _ (s : List ℕ) (ts ls : Names) (last : Task) (p : FilePart) (is : PartI
     it = record { name = bytesOf s nm; held = c }
 
     abbrev at : ℕ
-    at = placeOf (bytesOf s nm) (namesOf s ls)
+    at = placeAmong (bytesOf s nm) (namesOf s ls)
 
     names-after-lock : namesOf s (withLockName ls nm at) ≡ lockNames (withTasks (onLast (withLock it)) p)
     names-after-lock =
@@ -93,7 +93,7 @@ module _ (s : List ℕ) (ts ls : Names) (last : Task) (p : FilePart) (is : PartI
     pub task-after-lock : among (bytesOf s nm) (locksOf (lastTask p)) ≡ false → storedUse last at c ≡ padded (mention (lockNames p) (bytesOf s nm)) (withLock it (lastTask p))
     unfolding padded
     task-after-lock new =
-        ap₂ (λ (t : Task) (ns : List (List ℕ)). storedUse t (placeOf (bytesOf s nm) ns) c) (is .last-is) (is .lock-names)
+        ap₂ (λ (t : Task) (ns : List (List ℕ)). storedUse t (placeAmong (bytesOf s nm) ns) c) (is .last-is) (is .lock-names)
         ∙ padded-lock (lockNames p) (lastTask p) it new (lock-names-different p) few
 
     held-after-lock : 1 ≤ c → AllHeld (withLock it (lastTask p) .locks)

@@ -14,7 +14,7 @@ use Rattle.task_set.specs.declared.Task.{Task}
 use Rattle.plan_file.specs.Above.{FileLock, FileTask, withLock}
 use Rattle.plan_file.specs.Reading.{locksOf}
 use Rattle.plan_file.specs.Numbers.{heldUnder}
-use Rattle.plan_file.specs.Entries.{placeOf, useAt}
+use Rattle.plan_file.specs.Entries.{placeAmong, useAt}
 use Rattle.plan_file.proofs.SeenNames.{place-known, place-new, get-place, set-place, set-place-new}
 use Rattle.plan_file.proofs.SeenLocks.{held-none, held-unknown, held-snoc-other, held-snoc-new}
 
@@ -37,10 +37,10 @@ module _ (names : List (List ℕ)) (t : FileTask) where
   unfolding padded
   padded-new e = ap (taskWith t) (pad-fillers (heldBy t) 8 0 names (λ n. ap (heldUnder n) e ∙ held-none n))
 
-  pub padded-use : (name : List ℕ) → length names ≤ 8 → Unused name names t → useAt (padded names t) (placeOf name names) ≡ heldBy t name
+  pub padded-use : (name : List ℕ) → length names ≤ 8 → Unused name names t → useAt (padded names t) (placeAmong name names) ≡ heldBy t name
   unfolding padded useAt
   padded-use name h u =
-      getD-pad-fits 8 0 (map (heldBy t) names) (placeOf name names) (rw length-map h) ∙ get-place (heldBy t) name names (λ e. held-unknown name (t .locks) (u e))
+      getD-pad-fits 8 0 (map (heldBy t) names) (placeAmong name names) (rw length-map h) ∙ get-place (heldBy t) name names (λ e. held-unknown name (t .locks) (u e))
 
   -- one mention more changes nothing for a task that does not use the lock
   pub padded-mention : (name : List ℕ) → Unused name names t → padded (mention names name) t ≡ padded names t
@@ -54,7 +54,7 @@ module _ (names : List (List ℕ)) (t : FileTask) where
 -- a lock more of the task is a store at the place of its name
 module _ (names : List (List ℕ)) (t : FileTask) (l : FileLock) (new : among (l .name) (locksOf t) ≡ false) where
   abbrev stored : List ℕ
-  stored = set (pad 8 0 (map (heldBy t) names)) (placeOf (l .name) names) (l .held)
+  stored = set (pad 8 0 (map (heldBy t) names)) (placeAmong (l .name) names) (l .held)
 
   abbrev kept : List (List ℕ) → List ℕ
   kept ns = pad 8 0 (map (heldBy (withLock l t)) ns)
@@ -67,16 +67,16 @@ module _ (names : List (List ℕ)) (t : FileTask) (l : FileLock) (new : among (l
 
   stored-known : Different names → among (l .name) names ≡ true → stored ≡ kept names
   stored-known d e =
-      set-pad-within 8 0 (map (heldBy t) names) (placeOf (l .name) names) (l .held) (rw length-map (place-known (l .name) names e))
+      set-pad-within 8 0 (map (heldBy t) names) (placeAmong (l .name) names) (l .held) (rw length-map (place-known (l .name) names e))
       ∙ ap (pad 8 0) (rw it-holds at (set-place (heldBy t) (heldBy (withLock l t)) (l .name) others-keep d e))
 
   stored-new : length names < 8 → among (l .name) names ≡ false → stored ≡ kept (names ++ (l .name ∷ []))
   stored-new h e =
-      let n : placeOf (l .name) names ≡ length (map (heldBy t) names) = place-new (l .name) names e ∙ sym (length-map names (heldBy t)) in
+      let n : placeAmong (l .name) names ≡ length (map (heldBy t) names) = place-new (l .name) names e ∙ sym (length-map names (heldBy t)) in
       rw n (set-pad 8 0 (map (heldBy t) names) (l .held) (rw length-map h))
       ∙ ap (pad 8 0) (rw it-holds at (set-place-new (heldBy t) (heldBy (withLock l t)) (l .name) others-keep names e))
 
-  pub padded-lock : Different names → length (mention names (l .name)) ≤ 8 → taskWith t (set (padded names t .uses) (placeOf (l .name) names) (l .held)) ≡ padded (mention names (l .name)) (withLock l t)
+  pub padded-lock : Different names → length (mention names (l .name)) ≤ 8 → taskWith t (set (padded names t .uses) (placeAmong (l .name) names) (l .held)) ≡ padded (mention names (l .name)) (withLock l t)
   unfolding padded
   padded-lock d h = ap (taskWith t) (go (among (l .name) names) refl)
     where

@@ -1,6 +1,6 @@
 -- What the reader keeps of the lines above, and what a record enters, as the code has them: names are stretches of the file s.
 --   namesOf s ns    == the names that the struct `Names` holds
---   placeOf name ns == the place of a name among names, from 0; their count where it is not among them
+--   placeAmong name ns == the place of a name among names, from 0; their count where it is not among them
 --   entryOf s n seen r == what the record r on line n enters: the first no of its questions, or its numbers
 --   seenPart, seenTask, seenLock, seenEnd == what has been seen behind such a line
 --   FineNames, FineSeen == counts within the places that there are
@@ -45,9 +45,9 @@ pub record FineNames (ns : Names) : Type 0 where
   pub few : ns .count ≤ 16
   pub room : length (ns .span) ≡ 16
 
-unfoldable pub placeOf : List ℕ → List (List ℕ) → ℕ
-placeOf name [] = zero
-placeOf name (n ∷ ns) = cond (same name n) zero (suc (placeOf name ns))
+unfoldable pub placeAmong : List ℕ → List (List ℕ) → ℕ
+placeAmong name [] = zero
+placeAmong name (n ∷ ns) = cond (same name n) zero (suc (placeAmong name ns))
 
 unfoldable pub withName : Names → Span → Names
 withName ns p = record { count = ns .count + 1; span = set (ns .span) (ns .count) p }
@@ -79,7 +79,7 @@ useAt t j = getD (t .uses) j 0
 
 unfoldable pub lockEntry : List ℕ → ℕ → Bool → TaskNumbers → Names → Span → Span → Entry
 lockEntry s n allowed last locks name c =
-    let j = placeOf (bytesOf s name) (namesOf s locks) in
+    let j = placeAmong (bytesOf s name) (namesOf s locks) in
     entryIf (firstNo (lockQuestions n allowed (leb 1 (useAt last j)) (namesOf s locks) (last .cost) (bytesOf s name) (bytesOf s c)))
     (Lock name j (valueOf (bytesOf s c)))
 

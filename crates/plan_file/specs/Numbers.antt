@@ -1,5 +1,5 @@
 -- A part as the local test sees it: numbers only.
---   locksIn p == m: the number of its locks
+--   lockCount p == m: the number of its locks
 --   tasksIn p == its tasks 1 to n; of each, how long it holds the locks 1 to m, in order of first mention
 -- Assumes nothing.
 use Prim.Native.Nat.{ℕ}
@@ -18,8 +18,8 @@ heldUnder name (l ∷ ls) = cond (same name (l .name)) (l .held) (heldUnder name
 unfoldable pub taskIn : List (List ℕ) → FileTask → Task
 taskIn names t = record { separation = t .separation; cost = t .cost; deadline = t .deadline; uses = map (λ name. heldUnder name (t .locks)) names }
 
-unfoldable pub locksIn : FilePart → ℕ
-locksIn p = length (lockNames p)
+unfoldable pub lockCount : FilePart → ℕ
+lockCount p = length (lockNames p)
 
 unfoldable pub tasksIn : FilePart → List Task
 tasksIn p = map (taskIn (lockNames p)) (p .tasks)

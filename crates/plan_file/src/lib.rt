@@ -5,7 +5,7 @@ use task_set::Task;
 ghost use mathlib.Core.Path.{_≡_};
 ghost use Prim.Native.Nat.{_<_};
 ghost use Rattle.scan.specs.Scan.{bytesOf};
-ghost use Rattle.plan_file.specs.Entries.{FineNames, noNames, noTaskRead, noneSeen, withName, withLockName, placeOf, namesOf, seenPart, seenTask, seenLock, seenEnd};
+ghost use Rattle.plan_file.specs.Entries.{FineNames, noNames, noTaskRead, noneSeen, withName, withLockName, placeAmong, namesOf, seenPart, seenTask, seenLock, seenEnd};
 
 // Names in the order of their lines, as stretches of the file.
 pub struct Names {
@@ -45,7 +45,7 @@ pub fn no_names() -> Names
 // The place of a name among names, from 0; their count where it is not among them.
 pub fn place_in(s: &[u8], names: Names, p: Span) -> usize
     requires { ⌜ FineNames names ⌝ }
-    ensures { λ r. ⌜ r ≡ placeOf (bytesOf (now (s .entry)) p) (namesOf (now (s .entry)) names) ⌝ }
+    ensures { λ r. ⌜ r ≡ placeAmong (bytesOf (now (s .entry)) p) (namesOf (now (s .entry)) names) ⌝ }
 {
     let n = names.count;
     let span = names.span;

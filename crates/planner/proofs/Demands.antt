@@ -2,7 +2,7 @@
 -- Assumes nothing.
 use Prim.Native.Nat.{ℕ, _≤_}
 use mathlib.Core.Path.{_≡_, refl, sym, ap, subst, _∙_}
-use mathlib.Core.Logic.{_⊎_, inl, inr, _↔_}
+use mathlib.Core.Logic.{_⊎_, inl, inr, ⊎-elim, _↔_}
 use mathlib.Core.Bool.{Bool, true, false, cond}
 use mathlib.Core.List.{List, map}
 use borrow.Author.Tests.{leb-true}
@@ -16,9 +16,9 @@ use Rattle.refusal.specs.Questions.{Question, Answer, firstNo, whenAnswered, wh
 use Rattle.refusal.specs.Questions.Answer.{answered, refused}
 use Rattle.refusal.specs.FirstNo.{FirstNo}
 use Rattle.refusal.proofs.Answers.{answered-not-refused, answer-same-value, answer-same-refusal}
-use Rattle.refusal.proofs.Questions.{refused-iff, only-first, first-of-two, first-of-three, asked-iff}
+use Rattle.refusal.proofs.Questions.{refused-iff, first-or-later, only-first, first-of-two, first-of-three, asked-iff}
 use Rattle.load.specs.declared.Row.{Row}
-use Rattle.load.specs.Weigh.{weighQuestions, weighed, weighOf}
+use Rattle.load.specs.Weigh.{weighQuestions, weighed, weighOf, rowsOf, structQuestions, weighRows}
 use Rattle.selection.specs.Questions.{choiceQuestions}
 use Rattle.plan_file.specs.Above.{FilePart}
 use Rattle.plan_file.specs.Reading.{readFile}
@@ -55,17 +55,17 @@ unfolding weighed
 weighed-outcome Done rows = refl
 weighed-outcome (Refused r) rows = refl
 
-weigh-refused : (rows : List Row) (r : Refusal) → (weighOf rows .outcome ≡ Refused r) ↔ (firstNo (weighQuestions rows) ≡ Refused r)
-unfolding weighOf
-weigh-refused rows r = let o = weighed-outcome (firstNo (weighQuestions rows)) rows in ((λ e. sym o ∙ e), λ e. o ∙ e)
+weighed-iff : (qs : List Question) (rows : List Row) (r : Refusal) → (weighed (firstNo qs) rows .outcome ≡ Refused r) ↔ FirstNo qs r
+weighed-iff qs rows r = let o = weighed-outcome (firstNo qs) rows in ((λ e. refused-iff qs r .0 (sym o ∙ e)), λ f. o ∙ refused-iff qs r .1 f)
 
 pub demand-2 : Demand2
-unfolding planOf planParts candidatesOf nameOf supplyAnswer
+unfolding planOf planParts candidatesOf nameOf weighOf weighRows supplyAnswer
 demand-2 = record {
   plan = λ s room r. refused-behind-iff s (λ parts. planQuestions (map keptRows parts) (planText parts (planRows (map keptRows parts))) room) (λ parts. planText parts (planRows (map keptRows parts))) r;
   candidates = λ s k r. refused-behind-iff s _ _ r;
   name = λ s k r. refused-behind-iff s _ _ r;
-  weigh = λ rows r. ((λ e. refused-iff (weighQuestions rows) r .0 (weigh-refused rows r .0 e)), λ f. weigh-refused rows r .1 (refused-iff (weighQuestions rows) r .1 f));
+  weigh = λ rows r. weighed-iff (weighQuestions rows) rows r;
+  weigh-struct = λ rows r. weighed-iff (structQuestions rows) (rowsOf rows) r;
   supply = λ P Q t r. asked-iff _ _ r;
 }
 
@@ -101,12 +101,13 @@ answered-fits s room text e = go (readFile s) refl
     go (refused r) f = absurd (answered-not-refused (sym e ∙ plan-unread s r f room))
 
 pub demand-1 : Demand1
-unfolding planQuestions choiceQuestions weighQuestions bufferAfter
+unfolding planQuestions choiceQuestions weighQuestions structQuestions bufferAfter
 demand-1 = record {
   plan = λ s room r e. numbered (λ parts f. some-budget (first-of-three _ _ _ r f)) (demand-2 .plan s room r .0 e);
   candidates = λ s k r e. numbered (λ parts f. first-of-two _ _ r f) (demand-2 .candidates s k r .0 e);
   name = λ s k r e. numbered (λ parts f. only-first _ r f) (demand-2 .name s k r .0 e);
   weigh = λ rows r e. some-row (first-of-three _ _ _ r (demand-2 .weigh rows r .0 e));
+  weigh-struct = λ rows r e. ⊎-elim (λ h. inl (0, h)) (λ f. some-row (first-of-three _ _ _ r f)) (first-or-later _ _ r (demand-2 .weigh-struct rows r .0 e));
   supply = λ P Q t r e. only-first _ r (demand-2 .supply P Q t r .0 e);
   fits = answered-fits;
   untouched = λ s out r e. ap (λ (a : Answer (List ℕ)). bufferAfter a out) e;

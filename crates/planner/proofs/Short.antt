@@ -21,7 +21,7 @@ use Rattle.candidates.proofs.Shown.{deadlines-holding}
 use Rattle.load.specs.declared.Row.{Row}
 use Rattle.load.proofs.Load.{boundsOf-small}
 use Rattle.plan_file.specs.Above.{FilePart, lockNames}
-use Rattle.plan_file.specs.Numbers.{locksIn, taskIn, tasksIn}
+use Rattle.plan_file.specs.Numbers.{lockCount, taskIn, tasksIn}
 use Rattle.plan_file.proofs.Fine.{FineFilePart, AllFine}
 use Rattle.listing.specs.Listing.{Ceiling, Share, ceilingsUnder}
 use Rattle.listing.proofs.Lengths.{ShortCeiling, ShortShare, listing-most}
@@ -73,10 +73,10 @@ module _ (p : FilePart) (fine : FineFilePart p) (s : Share) (h : Stands p s) whe
   ceilings-few = omega (arith, ap length (h .ceilings), under-length (h .setting) 1 (lockNames p), fine .few-locks)
 
   ceiling-short : (c : Ceiling) → List·Memᴰ c (s .ceilings) → ShortCeiling c
-  unfolding locksIn
+  unfolding lockCount
   ceiling-short c m =
       let r = under-member (h .setting) 1 (lockNames p) c (subst (List·Memᴰ c) (h .ceilings) m) in
-      let n = ceiling-most (tasksIn p) (locksIn p) (h .setting) (h .local .allowed) (r .at) (r .from) (omega (arith, r .to)) in
+      let n = ceiling-most (tasksIn p) (lockCount p) (h .setting) (h .local .allowed) (r .at) (r .from) (omega (arith, r .to)) in
       record { lock = fine .lock-names-most (c .lock) (r .named); number = omega (arith, r .is, n, tasks-few p fine) }
 
   share-short : s .bound .num ≤ numberLimit → s .bound .den ≤ numberLimit → ShortShare s
@@ -84,7 +84,7 @@ module _ (p : FilePart) (fine : FineFilePart p) (s : Share) (h : Stands p s) whe
     name = omega (arith, ap length (h .name), fine .name-most);
     period = omega (arith, period-is, fine .period-most);
     budget = omega (arith, ap (λ (r : Row). r .budget) (h .is), h .local .most, fine .period-most);
-    holding = omega (arith, ap (λ (r : Row). r .holding) (h .is), deadlines-holding (tasksIn p) (locksIn p) numberLimit (deadline-most p fine) (h .setting) (h .local .allowed));
+    holding = omega (arith, ap (λ (r : Row). r .holding) (h .is), deadlines-holding (tasksIn p) (lockCount p) numberLimit (deadline-most p fine) (h .setting) (h .local .allowed));
     num = num;
     den = den;
     few = ceilings-few;

@@ -1,7 +1,9 @@
 -- Demand 3 as a statement, for every file and every room, over every setting and every budget.
 --   Stands p s        == what is printed of p is its name and a row chosen for p under the very ceilings printed
 --   Printed ps text   == what demand 3 says of a printed plan
+--   NoBudgetAt ps j   == part j is the first that has no permitted setting with a budget
 --   NoneToPlan ps r   == no choice passes, and r is the refusal that says so: 10 at the first part without a budget, else 11
+--   Planning plan s ps == what demand 3 says of `plan` and the readable file s with the parts ps
 --   Demand3 plan      == demand 3 of an operation `plan` that answers a file and a room
 -- Assumes nothing.
 use Prim.Native.Nat.{ℕ, _≤_, _<_}

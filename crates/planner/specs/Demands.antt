@@ -2,8 +2,9 @@
 -- each operation: plan is `planned (planOf ..)` and `bufferAfter (planOf ..)`, candidates `candidateList (candidatesOf ..)`, name `nameBytes (nameOf ..)`,
 -- weigh `weighRows ..`, supply `supplied (supplyAnswer ..)`.
 --   Demand1 == whoever hands over a file, rows or a buffer gets a complete answer or one numbered refusal, and a refusal writes nothing
---   Demand2 == each refusal comes if its question has the answer no and those before it have yes, and in no other case
---   Demand3 planOf (Demand3) == a plan is refused with 10 or 11 exactly when no choice passes, and what it prints is the best one
+--   Demand2 == each refusal comes if its question has the answer no and those before it have yes, and in no other case; that every number is what the
+--              paper's equations give, the first half of demand 2, is what these contracts say
+-- Demand 3 has a page of its own: a plan is refused with 10 or 11 exactly when no choice passes, and what it prints is the best one.
 --   RefusedBehind s questions r == the file s is refused with r by questions 1 to 9, or it is readable and r comes from the questions of its parts
 -- Assumes nothing.
 use Prim.Native.Nat.{ℕ, _≤_}
@@ -19,7 +20,8 @@ use Rattle.refusal.specs.Questions.{Question}
 use Rattle.refusal.specs.Questions.Answer.{answered, refused}
 use Rattle.refusal.specs.FirstNo.{FirstNo}
 use Rattle.load.specs.declared.Row.{Row}
-use Rattle.load.specs.Weigh.{weighQuestions, weighOf}
+use Rattle.load.specs.declared.Rows.{Rows}
+use Rattle.load.specs.Weigh.{weighQuestions, weighOf, structQuestions, weighRows}
 use Rattle.plan_file.specs.Above.{FilePart}
 use Rattle.plan_file.specs.Statement.{RefusedAt, AnsweredBy}
 use Rattle.answers.specs.Parts.{keptRows}
@@ -35,6 +37,7 @@ pub record Demand1 : Type 0 where
   pub candidates : (s : List ℕ) (k : ℕ) (r : Refusal) → candidatesOf s k ≡ refused r → OfTheFile r ⊎ ((r ≡ BadHandSet 0) ⊎ (r ≡ NoBudget k))
   pub name : (s : List ℕ) (k : ℕ) (r : Refusal) → nameOf s k ≡ refused r → OfTheFile r ⊎ (r ≡ BadHandSet 0)
   pub weigh : (rows : List Row) (r : Refusal) → weighOf rows .outcome ≡ Refused r → ((j : ℕ) × (r ≡ BadHandSet j)) ⊎ ((j : ℕ) × (r ≡ NoTime j))
+  pub weigh-struct : (rows : Rows) (r : Refusal) → weighRows rows .outcome ≡ Refused r → ((j : ℕ) × (r ≡ BadHandSet j)) ⊎ ((j : ℕ) × (r ≡ NoTime j))
   pub supply : (P Q t : ℕ) (r : Refusal) → supplyAnswer P Q t ≡ refused r → r ≡ BadHandSet 0
   -- a listing that is answered fits the lent bytes
   pub fits : (s : List ℕ) (room : ℕ) (text : List ℕ) → planOf s room ≡ answered text → length text ≤ room
@@ -50,4 +53,5 @@ pub record Demand2 : Type 0 where
   pub candidates : (s : List ℕ) (k : ℕ) (r : Refusal) → (candidatesOf s k ≡ refused r) ↔ RefusedBehind s (candidateQuestions k) r
   pub name : (s : List ℕ) (k : ℕ) (r : Refusal) → (nameOf s k ≡ refused r) ↔ RefusedBehind s (nameQuestions k) r
   pub weigh : (rows : List Row) (r : Refusal) → (weighOf rows .outcome ≡ Refused r) ↔ FirstNo (weighQuestions rows) r
+  pub weigh-struct : (rows : Rows) (r : Refusal) → (weighRows rows .outcome ≡ Refused r) ↔ FirstNo (structQuestions rows) r
   pub supply : (P Q t : ℕ) (r : Refusal) → (supplyAnswer P Q t ≡ refused r) ↔ FirstNo (supplyQuestions P Q t) r

@@ -1,7 +1,9 @@
-// The five operations, and what they answer: plan, candidates, name with its outcome and its place, weigh (by value and over a lent slice) and supply.
+// The five operations: plan, candidates, name with its outcome and its place, weigh (by value and over a lent slice) and supply; with what they take and answer.
 pub use answers::CandidateList;
 pub use answers::Planned;
 pub use answers::Supplied;
+pub use candidates::Kept;
+pub use candidates::Pair;
 pub use hand_set::supply;
 pub use hand_set::weigh_slice;
 pub use inquiries::NameStretch;
@@ -9,6 +11,14 @@ pub use inquiries::candidates;
 pub use inquiries::name;
 pub use inquiries::name_outcome;
 pub use inquiries::name_stretch;
+pub use least::Frac;
+pub use load::Row;
+pub use load::Rows;
 pub use load::Weighed;
 pub use load::weigh;
 pub use planning::plan;
+pub use refusal::Outcome;
+pub use refusal::Refusal;
+pub use refusal::number;
+pub use refusal::place;
+pub use scan::Span;

@@ -1,4 +1,6 @@
 -- The answers of the operations as callers in C and Rust get them: an outcome is its number and its place, 0 and 0 on success.
+--   planExported, candidatesExported, nameExported, weighExported, supplyExported == the answer of each operation so
+--   NameExported s k r == r is the name of part k in the file s so, and its bytes stand there
 -- Assumes nothing.
 use Prim.Native.Nat.{ℕ}
 use mathlib.Core.Path.{_≡_}

@@ -31,6 +31,7 @@ use Rattle.load.specs.declared.Weighed.{Weighed}
 use Rattle.load.specs.Load.{row, boundsOf, loadOf, loadRow, passesSystem}
 use Rattle.load.specs.Weigh.{rowsOf, rowsFrom, weighed, weighRows}
 use Rattle.load.proofs.Load.{boundsOf-length}
+use Rattle.load.proofs.Weighing.{weigh-few}
 use Rattle.writer.specs.Written.{Written}
 use Rattle.selection.specs.Selection.{choices, leastLoaded}
 use Rattle.selection.specs.Questions.{choiceQuestions}
@@ -120,10 +121,8 @@ module _ (s : List ℕ) (f : PlanFile) (is : ReadIs s f) (h : Handed s f) (p : P
     rows-taken = ap rowsOf rows-are ∙ ap (λ (n : ℕ). take n (pad 16 (row 0 0 0) R)) (sym R-length) ∙ take-pad 16 (row 0 0 0) R (omega (arith, R-length, is .few))
 
     weighed-is : weighRows (p .rows) ≡ weighed Done R
-    unfolding weighRows
     weighed-is =
-        let few : leb (p .rows .count) rowLimit ≡ true = le-leb (p .rows .count) rowLimit (omega (arith, ap (λ (x : Rows). x .count) rows-are, is .few)) in
-        simp (few, rows-taken) (kept-weighed (read-fine s (h .parts) (h .reads)) some-part (omega (arith, h .count, is .few)) kept (leastRows-passes (h .parts) passing))
+        weigh-few (p .rows) (omega (arith, ap (λ (x : Rows). x .count) rows-are, is .few)) ∙ simp rows-taken (kept-weighed (read-fine s (h .parts) (h .reads)) some-part (omega (arith, h .count, is .few)) kept (leastRows-passes (h .parts) passing))
 
     abbrev w : Weighed
     w = weighRows (p .rows)

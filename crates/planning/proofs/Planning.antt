@@ -21,7 +21,7 @@ use Rattle.writer.specs.Written.{written, Written}
 use Rattle.plan_file.specs.Above.{FilePart, noPart}
 use Rattle.reader.specs.declared.PartRead.{PartRead}
 use Rattle.reader.specs.declared.PlanFile.{PlanFile}
-use Rattle.reader.specs.Reader.{ReadPart, blankPart, numbersOf, partOf, ReadIs}
+use Rattle.reader.specs.Reader.{ReadPart, blankPart, asRead, partOf, ReadIs}
 use Rattle.reader.proofs.Handed.{Handed}
 use Rattle.reader.proofs.Fine.{counts-at, handed-fine}
 use Rattle.offers.specs.Gathered.{partIn, FineParts}
@@ -65,13 +65,13 @@ module _ (s : List ℕ) (f : PlanFile) (is : ReadIs s f) (h : Handed s f) where
       List·getD-map keptRows (h .parts) k noPart ∙ part-rows k m ∙ sym (column-get (partRows f) (keptRows noPart) k (f .count) m))
 
 -- what is printed of a part
-share-same : (s : List ℕ) (p : PartRead) (q : FilePart) (r : Row) (b : Frac) → partOf s p ≡ numbersOf q → shareRead s p r b ≡ shareOf q r b
-unfolding shareRead shareOf partOf numbersOf
+share-same : (s : List ℕ) (p : PartRead) (q : FilePart) (r : Row) (b : Frac) → partOf s p ≡ asRead q → shareRead s p r b ≡ shareOf q r b
+unfolding shareRead shareOf partOf asRead
 share-same s p q r b e =
     ap (λ (x : ReadPart). record { name = x .name; row = r; bound = b; ceilings = ceilingsUnder (shownCeiling (x .tasks) (r .holding)) 1 (x .locks) }) e
 
-pub shares-same : (s : List ℕ) (ps : List PartRead) (qs : List FilePart) (rs : List Row) (bs : List Frac) → map (partOf s) ps ≡ map numbersOf qs → sharesRead s ps rs bs ≡ sharesOf qs rs bs
-shares-same s ps qs rs bs e = zip3-same (shareRead s) shareOf (partOf s) numbersOf (λ p q h r b. share-same s p q r b h) ps qs rs bs e
+pub shares-same : (s : List ℕ) (ps : List PartRead) (qs : List FilePart) (rs : List Row) (bs : List Frac) → map (partOf s) ps ≡ map asRead qs → sharesRead s ps rs bs ≡ sharesOf qs rs bs
+shares-same s ps qs rs bs e = zip3-same (shareRead s) shareOf (partOf s) asRead (λ p q h r b. share-same s p q r b h) ps qs rs bs e
 
 -- the load line is that of the first share that reaches the load
 pub listing-same : (shares : List Share) (k : ℕ) → 1 ≤ k → firstOf (atMost (greatestOf (map (λ x. x .bound) shares))) (map (λ x. x .bound) shares) ≡ k → listingAt k shares ≡ listingOf shares

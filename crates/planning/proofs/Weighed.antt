@@ -24,7 +24,7 @@ use Rattle.load.specs.Load.{boundsOf, passesSystem}
 use Rattle.load.specs.Weigh.{rowInRange, hasTime, weighQuestions, weighed, weighOf}
 use Rattle.load.proofs.Load.{boundsOf-ok, passes-finite, load-greatest}
 use Rattle.plan_file.specs.Above.{FilePart, lockNames}
-use Rattle.plan_file.specs.Numbers.{locksIn, taskIn, tasksIn}
+use Rattle.plan_file.specs.Numbers.{lockCount, taskIn, tasksIn}
 use Rattle.plan_file.proofs.Fine.{FineFilePart, AllFine}
 use Rattle.answers.specs.Choice.{FromKept}
 
@@ -40,8 +40,8 @@ kept-in-range : (q : FilePart) (r : Row) → FineFilePart q → FromKept q r →
 unfolding rowInRange
 kept-in-range q r fine k =
     let c = k .kept .candidate in
-    let b = budget-iff (q .period) (tasksIn q) (locksIn q) (c .setting) (r .budget) .0 (c .budget) in
-    let x = deadlines-holding (tasksIn q) (locksIn q) numberLimit (deadline-most q fine) (c .setting) (c .allowed) in
+    let b = budget-iff (q .period) (tasksIn q) (lockCount q) (c .setting) (r .budget) .0 (c .budget) in
+    let x = deadlines-holding (tasksIn q) (lockCount q) numberLimit (deadline-most q fine) (c .setting) (c .allowed) in
     simp (le-leb 1 (r .budget) (b .0 .positive), le-leb (r .budget) (r .period) (omega (arith, b .1, k .period)), le-leb (r .period) numberLimit (omega (arith, k .period, fine .period-most)), le-leb (r .holding) numberLimit (omega (arith, x, c .holding)))
 
 rows-in-range : {ps : List FilePart} {rs : List Row} → AllFine ps → Each FromKept ps rs → (r : Row) → List·Memᴰ r rs → rowInRange r ≡ true

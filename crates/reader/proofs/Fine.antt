@@ -15,13 +15,13 @@ use Rattle.task_set.specs.declared.Part.{Part}
 use Rattle.task_set.specs.Tasks.{heldFor, withLocks, tasksOf}
 use Rattle.task_set.specs.Fine.{blankTask, FineTask, FinePart}
 use Rattle.plan_file.specs.Above.{FilePart, noPart}
-use Rattle.plan_file.specs.Numbers.{locksIn, tasksIn}
+use Rattle.plan_file.specs.Numbers.{lockCount, tasksIn}
 use Rattle.plan_file.proofs.Places.{names-length}
 use Rattle.plan_file.proofs.Fine.{FineFilePart, read-fine}
 use Rattle.plan_file.proofs.FineTasks.{each-task-fine, each-lock-used}
 use Rattle.reader.specs.declared.PartRead.{PartRead}
 use Rattle.reader.specs.declared.PlanFile.{PlanFile}
-use Rattle.reader.specs.Reader.{ReadPart, numbersOf, partOf, FineCounts, noPartRead, ReadIs}
+use Rattle.reader.specs.Reader.{ReadPart, asRead, partOf, FineCounts, noPartRead, ReadIs}
 use Rattle.reader.proofs.Handed.{Handed, part-handed}
 
 -- the struct's task at a place is one of the part's tasks, and within the part's locks it holds them as long
@@ -51,19 +51,19 @@ pub record PartFine (p : Part) (q : FilePart) : Type 0 where
   pub period-most : p .period ≤ numberLimit
   pub period-is : p .period ≡ q .period
   pub tasks-are : tasksOf p ≡ tasksIn q
-  pub locks-are : p .locks ≡ locksIn q
+  pub locks-are : p .locks ≡ lockCount q
 
-module _ (s : List ℕ) (r : PartRead) (q : FilePart) (is : numbersOf q ≡ partOf s r) (counts : FineCounts r) (fine : FineFilePart q) where
+module _ (s : List ℕ) (r : PartRead) (q : FilePart) (is : asRead q ≡ partOf s r) (counts : FineCounts r) (fine : FineFilePart q) where
   period-same : r .part .period ≡ q .period
-  unfolding numbersOf partOf
+  unfolding asRead partOf
   period-same = sym (ap (λ (x : ReadPart). x .period) is)
 
   tasks-same : tasksOf (r .part) ≡ tasksIn q
-  unfolding numbersOf partOf
+  unfolding asRead partOf
   tasks-same = sym (ap (λ (x : ReadPart). x .tasks) is)
 
-  locks-same : r .part .locks ≡ locksIn q
-  unfolding numbersOf partOf locksIn
+  locks-same : r .part .locks ≡ lockCount q
+  unfolding asRead partOf lockCount
   locks-same = counts .locks-are ∙ (sym (names-length s (r .locks) (counts .names)) ∙ sym (ap (λ (x : ReadPart). length (x .locks)) is))
 
   part-numbers : FinePart (r .part)

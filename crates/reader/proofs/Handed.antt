@@ -17,13 +17,13 @@ use Rattle.plan_file.specs.Above.{FilePart, noPart}
 use Rattle.plan_file.specs.Reading.{readFile}
 use Rattle.reader.specs.declared.PartRead.{PartRead}
 use Rattle.reader.specs.declared.PlanFile.{PlanFile}
-use Rattle.reader.specs.Reader.{ReadPart, numbersOf, numbered, partOf, answerOf, fileOf, ReadIs}
+use Rattle.reader.specs.Reader.{ReadPart, asRead, numbered, partOf, answerOf, fileOf, ReadIs}
 
 -- the parts of a readable file, and that the struct holds their numbers
 pub record Handed (s : List ℕ) (f : PlanFile) : Type 0 where
   pub parts : List FilePart
   pub reads : readFile s ≡ answered parts
-  pub same : map (partOf s) (take (f .count) (f .parts)) ≡ map numbersOf parts
+  pub same : map (partOf s) (take (f .count) (f .parts)) ≡ map asRead parts
   pub count : length parts ≡ f .count
 
 module _ (s : List ℕ) (f : PlanFile) (is : ReadIs s f) where
@@ -47,21 +47,21 @@ module _ (s : List ℕ) (f : PlanFile) (is : ReadIs s f) where
 
       go : (a : Answer (List FilePart)) → readFile s ≡ a → Handed s f
       go (answered ps) h =
-          let same : map (partOf s) (take (f .count) (f .parts)) ≡ map numbersOf ps = answer-same-value (said ∙ ap numbered h) in
+          let same : map (partOf s) (take (f .count) (f .parts)) ≡ map asRead ps = answer-same-value (said ∙ ap numbered h) in
           record {
             parts = ps;
             reads = h;
             same = same;
-            count = omega (arith, length-map ps numbersOf, length-map (take (f .count) (f .parts)) (partOf s), ap length same, length-take-le (f .count) (f .parts) (omega (arith, is .few, is .room)));
+            count = omega (arith, length-map ps asRead, length-map (take (f .count) (f .parts)) (partOf s), ap length same, length-take-le (f .count) (f .parts) (omega (arith, is .few, is .room)));
           }
       go (refused x) h = absurd (answered-not-refused (said ∙ ap numbered h))
 
 -- the part at a place, as it was handed on
-pub part-handed : (s : List ℕ) (f : PlanFile) (h : Handed s f) (j : ℕ) (d : PartRead) → j < f .count → numbersOf (getD (h .parts) j noPart) ≡ partOf s (getD (f .parts) j d)
+pub part-handed : (s : List ℕ) (f : PlanFile) (h : Handed s f) (j : ℕ) (d : PartRead) → j < f .count → asRead (getD (h .parts) j noPart) ≡ partOf s (getD (f .parts) j d)
 part-handed s f h j d l =
-    let most : j < length (map numbersOf (h .parts)) = omega (arith, length-map (h .parts) numbersOf, h .count) in
-    sym (List·getD-map numbersOf (h .parts) j noPart)
-    ∙ getD-any (map numbersOf (h .parts)) j (numbersOf noPart) (partOf s d) most
+    let most : j < length (map asRead (h .parts)) = omega (arith, length-map (h .parts) asRead, h .count) in
+    sym (List·getD-map asRead (h .parts) j noPart)
+    ∙ getD-any (map asRead (h .parts)) j (asRead noPart) (partOf s d) most
     ∙ ap (λ (l : List ReadPart). getD l j (partOf s d)) (sym (h .same))
     ∙ List·getD-map (partOf s) (take (f .count) (f .parts)) j d
     ∙ ap (partOf s) (getD-take (f .count) (f .parts) j d l)

@@ -22,13 +22,13 @@ use Rattle.plan_file.specs.declared.Seen.{Seen}
 use Rattle.plan_file.specs.Above.{FileLock, FileTask, FilePart, Above, noPart, nothingAbove, thisPart, thisTask, lockNames, withLock, withTasks, partsAfter, after}
 use Rattle.plan_file.specs.Numbers.{tasksIn}
 use Rattle.plan_file.specs.Reading.{isEnd, locksOf}
-use Rattle.plan_file.specs.Entries.{noSpan, noTaskRead, noneSeen, namesOf, placeOf, seenPart, seenTask, seenLock, seenEnd}
+use Rattle.plan_file.specs.Entries.{noSpan, noTaskRead, noneSeen, namesOf, placeAmong, seenPart, seenTask, seenLock, seenEnd}
 use Rattle.plan_file.proofs.SeenNames.{fine-none}
 use Rattle.plan_file.proofs.SeenTasks.{taskWith}
 use Rattle.plan_file.proofs.SeenPart.{storedUse, task-count, lock-count, task-after-lock}
 use Rattle.plan_file.proofs.SeenAbove.{SeenIs, part-count, taskOf, lockOf, this-part-part, this-part-task, this-part-lock, seen-is-start, seen-is-part, seen-is-task, seen-is-lock, seen-is-end}
 use Rattle.reader.specs.declared.PartRead.{PartRead}
-use Rattle.reader.specs.Reader.{ReadPart, numbersOf, partOf, FineCounts, closedPart, noPartRead}
+use Rattle.reader.specs.Reader.{ReadPart, asRead, partOf, FineCounts, closedPart, noPartRead}
 use Rattle.reader.proofs.Arrays.{set-each, arrayOf, array-task, array-lock, tasks-closed}
 
 -- the last part
@@ -42,9 +42,9 @@ pub record Stands (s : List ℕ) (seen : Seen) (opened : ℕ) (name : Span) (per
   pub last : Holds s name period tasks (thisPart a)
   pub open-is : opened ≡ length (a .parts) - 1
   pub room : length all ≡ 16
-  pub closed : map (partOf s) (take opened all) ≡ map numbersOf (dropLast (a .parts))
+  pub closed : map (partOf s) (take opened all) ≡ map asRead (dropLast (a .parts))
   pub counts : (k : ℕ) → FineCounts (getD all k noPartRead)
-  pub complete : isEnd (a .directly) ≡ true → map (partOf s) (take (length (a .parts)) all) ≡ map numbersOf (a .parts)
+  pub complete : isEnd (a .directly) ≡ true → map (partOf s) (take (length (a .parts)) all) ≡ map asRead (a .parts)
 
 none-counted : FineCounts noPartRead
 unfolding closedPart
@@ -84,8 +84,8 @@ module _ (s : List ℕ) (seen : Seen) (opened : ℕ) (name : Span) (period : ℕ
       ap (λ (ts : List Task). tasksOf (record { period = period; tasks = ts; count = seen .tasks .count; locks = seen .locks .count })) (stands .last .tasks-are)
       ∙ tasks-closed (thisPart a) period (seen .tasks .count) (seen .locks .count) tasks-count locks-count (stands .seen-is .part .fine-tasks .few) (stands .seen-is .part .few-locks)
 
-  last-read : partOf s lastRead ≡ numbersOf (thisPart a)
-  unfolding partOf closedPart numbersOf
+  last-read : partOf s lastRead ≡ asRead (thisPart a)
+  unfolding partOf closedPart asRead
   last-read =
       λ i. record { name = stands .last .called i; period = stands .last .period-is i; locks = stands .seen-is .part .lock-names i; tasks = tasks-read i }
 
@@ -99,19 +99,19 @@ module _ (s : List ℕ) (seen : Seen) (opened : ℕ) (name : Span) (period : ℕ
   all-counted : (k : ℕ) → FineCounts (getD (set all opened lastRead) k noPartRead)
   all-counted = set-each FineCounts noPartRead all opened lastRead (stands .counts) last-counted
 
-  some-read : 1 ≤ length (a .parts) → map (partOf s) (take (length (a .parts)) (set all opened lastRead)) ≡ map numbersOf (a .parts)
+  some-read : 1 ≤ length (a .parts) → map (partOf s) (take (length (a .parts)) (set all opened lastRead)) ≡ map asRead (a .parts)
   some-read h =
       let n : length (a .parts) ≡ suc opened = omega (arith, stands .open-is) in
       rw (n, take-suc-set all opened lastRead (omega (arith, open-small, stands .room)), map-append (partOf s))
       (ap₂ (λ (xs : List ReadPart) (x : ReadPart). xs ++ (x ∷ [])) (stands .closed) last-read
-      ∙ sym (map-append numbersOf (dropLast (a .parts)) (thisPart a ∷ []))
-      ∙ ap (map numbersOf) (sym (last-split noPart (a .parts) h)))
+      ∙ sym (map-append asRead (dropLast (a .parts)) (thisPart a ∷ []))
+      ∙ ap (map asRead) (sym (last-split noPart (a .parts) h)))
 
   -- with the last part stored, all parts are there
-  all-read : map (partOf s) (take (length (a .parts)) (set all opened lastRead)) ≡ map numbersOf (a .parts)
+  all-read : map (partOf s) (take (length (a .parts)) (set all opened lastRead)) ≡ map asRead (a .parts)
   all-read = go (a .parts) refl
     where
-      go : (ps : List FilePart) → a .parts ≡ ps → map (partOf s) (take (length (a .parts)) (set all opened lastRead)) ≡ map numbersOf (a .parts)
+      go : (ps : List FilePart) → a .parts ≡ ps → map (partOf s) (take (length (a .parts)) (set all opened lastRead)) ≡ map asRead (a .parts)
       go [] h = rw h
       go (p ∷ ps) h = some-read (rw h (omega arith))
 
@@ -155,7 +155,7 @@ module _ (s : List ℕ) (seen : Seen) (opened : ℕ) (name : Span) (period : ℕ
 
   module _ (nm : Span) (c : List ℕ) (some : 1 ≤ length (thisPart a .tasks)) (new : among (bytesOf s nm) (locksOf (thisTask a)) ≡ false) (few : length (mention (lockNames (thisPart a)) (bytesOf s nm)) ≤ 8) where
     abbrev at : ℕ
-    at = placeOf (bytesOf s nm) (namesOf s (seen .locks))
+    at = placeAmong (bytesOf s nm) (namesOf s (seen .locks))
 
     abbrev it : FileLock
     it = lockOf (bytesOf s nm) c

@@ -18,7 +18,7 @@ use Rattle.task_set.specs.declared.Task.{Task}
 use Rattle.plan_file.specs.declared.Seen.{Seen}
 use Rattle.plan_file.specs.declared.Entry.the-variants.{Part as PartEntry, Task as TaskEntry, Lock as LockEntry, End as EndEntry}
 use Rattle.plan_file.specs.Above.{Above, thisPart, lockNames, after}
-use Rattle.plan_file.specs.Entries.{noTaskRead, placeOf, withName, entryOf, seenPart, seenTask, seenLock, seenEnd}
+use Rattle.plan_file.specs.Entries.{noTaskRead, placeAmong, withName, entryOf, seenPart, seenTask, seenLock, seenEnd}
 use Rattle.plan_file.specs.Stretches.{spanOn}
 use Rattle.plan_file.proofs.SeenNames.{place-mention}
 use Rattle.plan_file.proofs.SeenTasks.{taskWith}
@@ -111,7 +111,7 @@ module _ (s : List ℕ) (c : Cursor) (seen : Seen) (opened : ℕ) (name : Span) 
         let e = entered-lock in
         let is-part = reading .stands .seen-is .part in
         let count = task-count s (seen .tasks) (seen .locks) (seen .last) (thisPart a) is-part in
-        let k : j ≡ placeOf (bytesOf s nm) (lockNames (thisPart a)) = e .place ∙ ap (placeOf (bytesOf s nm)) (is-part .lock-names) in
+        let k : j ≡ placeAmong (bytesOf s nm) (lockNames (thisPart a)) = e .place ∙ ap (placeAmong (bytesOf s nm)) (is-part .lock-names) in
         (omega (arith, place-mention (bytesOf s nm) (lockNames (thisPart a)) 8 (e .few)), omega (arith, e .task-above), is-part .fine-tasks .few)
 
     pub reading-lock : Reading s next (seenLock seen nm j (heldAt (seen .last) j v)) opened name period (set tasks (seen .tasks .count - 1) (heldAt (seen .last) j v)) all

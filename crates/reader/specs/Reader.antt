@@ -1,6 +1,6 @@
 -- What the reader hands on, and what it stands for.
 --   ReadPart    == a part as the operations see it: its name, its period, the names of its locks in order of first mention, and its tasks as numbers
---   numbersOf p == that of a part of the file;  numbered a == of every part of a readable file
+--   asRead p == that of a part of the file;  numbered a == of every part of a readable file
 --   partOf s r  == that of the struct `PartRead`, whose names are stretches of the file s
 --   fileOf s f  == what the struct `PlanFile` says: the parts that it holds, or the refusal
 --   FineCounts r == the counts of the struct `PartRead` are within the places that there are, and count the same locks
@@ -37,11 +37,11 @@ pub record ReadPart : Type 0 where
   pub locks : List (List ℕ)
   pub tasks : List Task
 
-unfoldable pub numbersOf : FilePart → ReadPart
-numbersOf p = record { name = p .name; period = p .period; locks = lockNames p; tasks = tasksIn p }
+unfoldable pub asRead : FilePart → ReadPart
+asRead p = record { name = p .name; period = p .period; locks = lockNames p; tasks = tasksIn p }
 
 unfoldable pub numbered : Answer (List FilePart) → Answer (List ReadPart)
-numbered (answered ps) = answered (map numbersOf ps)
+numbered (answered ps) = answered (map asRead ps)
 numbered (refused r) = refused r
 
 unfoldable pub partOf : List ℕ → PartRead → ReadPart

@@ -81,7 +81,7 @@ pub done-iff : (qs : List Question) → (firstNo qs ≡ Done) ↔ (allYes qs ≡
 done-iff qs = (done-all qs, all-done qs)
 
 -- the first no is that of the first question, or of one behind it
-first-or-later : (q : Question) (qs : List Question) (r : Refusal) → FirstNo (q ∷ qs) r → (r ≡ q .refusal) ⊎ FirstNo qs r
+pub first-or-later : (q : Question) (qs : List Question) (r : Refusal) → FirstNo (q ∷ qs) r → (r ≡ q .refusal) ⊎ FirstNo qs r
 first-or-later q qs r f = go (q .yes) refl
   where
     e : firstNo (q ∷ qs) ≡ Refused r

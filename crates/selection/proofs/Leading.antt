@@ -16,7 +16,7 @@ use Rattle.least.specs.Fraction.{frac, _⊑_, _⊏_, atMost}
 use Rattle.least.proofs.Fraction.{⊑-refl, ⊑-trans, ⊏-⊑}
 use Rattle.load.specs.declared.Row.{Row}
 use Rattle.load.specs.Load.{row, rowSum, boundOf}
-use Rattle.load.specs.ByColumn.{sharesOf, rowsBy, FineColumns}
+use Rattle.load.specs.ByColumn.{rowsCosting, rowsBy, FineColumns}
 use Rattle.load.specs.Code.{noRow}
 use Rattle.load.proofs.RowsBy.{rows-length, rows-get, bound-at}
 use Rattle.selection.specs.Code.{FineBest, boundAt, heldBefore, StuckIs, HeaviestIs}
@@ -62,13 +62,13 @@ module _ (periods sums holdings : List ℕ) (n : ℕ) (fine : FineColumns period
   abbrev R : List Row
   R = rowsBy periods sums holdings n
 
-  pub bound-is : (s below : ℕ) (b : Frac) → s < n → below ≡ heldBefore R s → b ≡ boundOf [] (row (getD periods s 0) (getD sums s 0 + below) 0) (drop (s + 1) (sharesOf periods sums n)) → b ≡ boundAt R s
+  pub bound-is : (s below : ℕ) (b : Frac) → s < n → below ≡ heldBefore R s → b ≡ boundOf [] (row (getD periods s 0) (getD sums s 0 + below) 0) (drop (s + 1) (rowsCosting periods sums n)) → b ≡ boundAt R s
   bound-is s below b h e q = rw e at q ∙ sym (bound-at periods sums holdings n fine s h)
 
   pub bound-small : (s : ℕ) → s < n → (boundAt R s .num ≤ 2 ^ 20) × (boundAt R s .den ≤ 2 ^ 20)
   bound-small s h =
       let l : s < length R = omega (arith, rows-length periods sums holdings n) in
-      let p = fine .shares .fine in
+      let p = fine .demand .fine in
       let b = boundAt-small R s l (rw (rows-get periods sums holdings n s h) (p .some s h)) in
       let e : getD R s noRow .period ≤ 2 ^ 20 = rw (rows-get periods sums holdings n s h) (p .most s h) in
       (omega arith, omega arith)
@@ -97,7 +97,7 @@ module _ (periods sums holdings : List ℕ) (n : ℕ) (fine : FineColumns period
     BelowTo s = (k : ℕ) → k < s → boundAt R k ⊏ best
 
     module _ (s below : ℕ) (r : Bool) (within : s < n) (held : below ≡ heldBefore R s)
-        (is : r ≡ atMost best (boundOf [] (row (getD periods s 0) (getD sums s 0 + below) 0) (drop (s + 1) (sharesOf periods sums n)))) where
+        (is : r ≡ atMost best (boundOf [] (row (getD periods s 0) (getD sums s 0 + below) 0) (drop (s + 1) (rowsCosting periods sums n)))) where
       reaches-at : r ≡ atMost best (boundAt R s)
       reaches-at = rw held at is ∙ ap (atMost best) (sym (bound-at periods sums holdings n fine s within))
 

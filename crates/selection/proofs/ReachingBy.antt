@@ -11,7 +11,7 @@ use Rattle.least.specs.Fraction.{atMost}
 use Rattle.least.proofs.Fraction.{atMost-true, atMost-false}
 use Rattle.demand.specs.Demand.{demandFrom, FineDemand}
 use Rattle.load.specs.Load.{row, boundOf}
-use Rattle.load.specs.ByColumn.{sharesOf}
+use Rattle.load.specs.ByColumn.{rowsCosting}
 use Rattle.load.proofs.BoundBy.{loadBy, loadBy-is, loadBy-mono}
 use Rattle.selection.specs.Code.{UntilIs}
 use Rattle.selection.proofs.Reaching.{ReachesTo, reaches-until, reaches-all, reaches-least, reaches-not}
@@ -21,7 +21,7 @@ module _ (periods sums : List ℕ) (n s period own : ℕ) (best : Frac) where
   ReachesBy done = ReachesTo (loadBy periods sums n s period own) best done
 
   abbrev bound : Frac
-  bound = boundOf [] (row period own 0) (drop s (sharesOf periods sums n))
+  bound = boundOf [] (row period own 0) (drop s (rowsCosting periods sums n))
 
   pub reached-end : (done : ℕ) → period ≤ done → ReachesBy done → true ≡ atMost best bound
   unfolding boundOf

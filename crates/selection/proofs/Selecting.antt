@@ -111,7 +111,7 @@ module _ {periods budgets holdings counts : List ℕ} {n : ℕ} where
 
     pub turn-columns : FineColumns periods (c .sums) (c .holdings) n
     turn-columns = record {
-      shares = record {
+      demand = record {
         fine = record {
           few = fine .few;
           some = λ k h. row-fine k h .period-some;

@@ -1,5 +1,6 @@
 -- Questions 10 and 11, where the parts offer these rows.
---   choiceQuestions offers == questions 10 (the first part that offers no row) and 11 (0 where no choice passes the system test)
+--   choiceQuestions offers == questions 10 (the first part that offers no row) and 11 (0 where no choice of offered rows passes the system test)
+-- Where the rows are those of the kept pairs, no choice at all passes then: `refused-iff-none-passes` of the crate planner.
 -- Assumes nothing.
 use mathlib.Core.Bool.{not}
 use mathlib.Core.List.{List, [], _∷_}

@@ -7,7 +7,7 @@ ghost use lib.ListN.{getD, drop};
 ghost use Rattle.least.specs.Fraction.{atMost};
 ghost use Rattle.demand.specs.Demand.{FineDemand};
 ghost use Rattle.load.specs.Load.{row, boundOf};
-ghost use Rattle.load.specs.ByColumn.{sharesOf, rowsBy, FineColumns};
+ghost use Rattle.load.specs.ByColumn.{rowsCosting, rowsBy, FineColumns};
 ghost use Rattle.selection.specs.Code.{FineOffers, FinePlaces, ColumnsAre, FineBest, UntilIs, StuckIs, HeaviestIs, MoverIs, ChoiceIs};
 
 // A choice by columns: what each part's row costs, and its holding time.
@@ -66,7 +66,7 @@ fn reaches(
     best: Frac,
 ) -> bool
     requires { ⌜ FineDemand (now periods) (now sums) n × (1 ≤ period) × (period ≤ 2 ^ 20) × (1 ≤ own) × (own ≤ 2 ^ 23) × FineBest best ⌝ }
-    ensures { λ r. ⌜ r ≡ atMost best (boundOf [] (row period own 0) (drop s (sharesOf (now (periods .entry)) (now (sums .entry)) n))) ⌝ }
+    ensures { λ r. ⌜ r ≡ atMost best (boundOf [] (row period own 0) (drop s (rowsCosting (now (periods .entry)) (now (sums .entry)) n))) ⌝ }
 {
     let mut done: u64 = 0;
     while done < period {

@@ -30,39 +30,39 @@ add-bound-of : tie.Need-add-bound-of Inv-loop μ-loop
 add-bound-of c = omega arith
 
 mul-bound-of : tie.Need-mul-bound-of Inv-loop μ-loop
-mul-bound-of c = omega (arith, c .before .before .pre .shares .fine .few)
+mul-bound-of c = omega (arith, c .before .before .pre .demand .fine .few)
 
 element-copy-out-bound-of : tie.Need-element-copy-out-bound-of Inv-loop μ-loop
-element-copy-out-bound-of c = omega (arith, c .before .before .pre .shares .fine .few)
+element-copy-out-bound-of c = omega (arith, c .before .before .pre .demand .fine .few)
 
 mul-bound-of-2 : tie.Need-mul-bound-of-2 Inv-loop μ-loop
-mul-bound-of-2 c = omega (arith, c .before .before .before .pre .shares .fine .few)
+mul-bound-of-2 c = omega (arith, c .before .before .before .pre .demand .fine .few)
 
 element-copy-out-bound-of-2 : tie.Need-element-copy-out-bound-of-2 Inv-loop μ-loop
-element-copy-out-bound-of-2 c = omega (arith, c .before .before .before .pre .shares .fine .few)
+element-copy-out-bound-of-2 c = omega (arith, c .before .before .before .pre .demand .fine .few)
 
 add-bound-of-2 : tie.Need-add-bound-of-2 Inv-loop μ-loop
-add-bound-of-2 c = let s = c .before .before .before .before in omega (arith, s .pre .shares .most (c .before .before .before .loop .s) (c .before .before .loop-test .taken))
+add-bound-of-2 c = let s = c .before .before .before .before in omega (arith, s .pre .demand .most (c .before .before .before .loop .s) (c .before .before .loop-test .taken))
 
 bound-of-requires : tie.Need-bound-of-requires Inv-loop μ-loop
 bound-of-requires c κs =
     let s = c .before .before .before .before in
     let k = c .before .before .before .loop .s in
     let l = c .before .before .loop-test .taken in
-    let f = s .pre .shares in
+    let f = s .pre .demand in
     (f, f .fine .some k l, f .fine .most k l, omega (arith, s .pre .some k l), omega (arith, f .most k l))
 
 mul-bounds : tie.Need-mul-bounds Inv-loop μ-loop
-mul-bounds c = omega (arith, c .before .before .before .before .before .pre .shares .fine .few)
+mul-bounds c = omega (arith, c .before .before .before .before .before .pre .demand .fine .few)
 
 array-set-from-bounds : tie.Need-array-set-from-bounds Inv-loop μ-loop
-array-set-from-bounds c = omega (arith, c .before .before .before .before .before .pre .shares .fine .few)
+array-set-from-bounds c = omega (arith, c .before .before .before .before .before .pre .demand .fine .few)
 
 mul-larger : tie.Need-mul-larger Inv-loop μ-loop
-mul-larger c = omega (arith, c .before .before .before .before .before .pre .shares .fine .few)
+mul-larger c = omega (arith, c .before .before .before .before .before .pre .demand .fine .few)
 
 element-copy-out-larger : tie.Need-element-copy-out-larger Inv-loop μ-loop
-element-copy-out-larger c = omega (arith, c .before .before .before .before .before .pre .shares .fine .few)
+element-copy-out-larger c = omega (arith, c .before .before .before .before .before .pre .demand .fine .few)
 
 larger-requires : tie.Need-larger-requires Inv-loop μ-loop
 larger-requires c κs = search needs
@@ -80,7 +80,7 @@ loop-again c =
     let at = c .before .before .before .before .before .before .loop in
     let l = c .before .before .before .before .before .loop-test .taken in
     let next = bounds-next (a .periods .now) (a .sums .now) (a .holdings .now) (a .n) (s .pre) (at .s) (c .before .before .bound-of .result) l (rw (← at .inv .1) (c .before .before .bound-of .ensures)) in
-    let holds : getD (a .holdings .now) (at .s) 0 ≤ 2 ^ 22 = omega (arith, s .pre .holds (at .s) l, s .pre .shares .most (at .s) l) in
+    let holds : getD (a .holdings .now) (at .s) 0 ≤ 2 ^ 22 = omega (arith, s .pre .holds (at .s) l, s .pre .demand .most (at .s) l) in
     (rw (at .inv .0) next, omega (arith, c .larger .ensures, at .inv .1, blocking-next (a .periods .now) (a .sums .now) (a .holdings .now) (a .n) (at .s) l), omega arith, omega (arith, c .larger .ensures))
 
 returns : tie.Need-returns Inv-loop μ-loop

@@ -5,7 +5,7 @@ use mathlib.Core.Path.{_≡_}
 use mathlib.Core.Bool.{false}
 use borrow.Author.Tests.{not-true, not-false}
 use Rattle.scan.specs.Scan.{bytesOf}
-use Rattle.plan_file.specs.Entries.{namesOf, placeOf}
+use Rattle.plan_file.specs.Entries.{namesOf, placeAmong}
 use Rattle.plan_file.proofs.Asking.{NumberIs, number-is, number-malformed, Named, named-by-tests, part-misplaced, part-misnamed, part-known, part-misnumbered, part-too-many, part-enters}
 use borrow.Author.Needs.{needs}
 use Rattle.part_line.proofs.ask_part.Statement.{statement}
@@ -19,7 +19,7 @@ named : (c : tie.Else2) → let a = start c .args in Named (a .allowed) (bytesOf
 named c = named-by-tests (start c .args .allowed) (c .before .is-name .result) _ (c .before .before .before .if1 .left) (cc) (c .if2 .left)
 
 -- behind question 6
-new : (c : tie.Else3) → let a = start (c .before .before) .args in a .parts .count ≤ placeOf (bytesOf (a .s .now) (a .name)) (namesOf (a .s .now) (a .parts))
+new : (c : tie.Else3) → let a = start (c .before .before) .args in a .parts .count ≤ placeAmong (bytesOf (a .s .now) (a .name)) (namesOf (a .s .now) (a .parts))
 new c = rw (← c .before .place-in .ensures) (c .if3 .left)
 
 -- behind question 7

@@ -7,7 +7,7 @@ use mathlib.Core.Path.{_≡_, sym, ap, _∙_}
 use mathlib.Core.List.{List, map}
 use lib.ListN.{length, take, drop}
 use Rattle.scan.specs.Scan.{bytesOf}
-use Rattle.plan_file.specs.Entries.{namesOf, placeOf}
+use Rattle.plan_file.specs.Entries.{namesOf, placeAmong}
 use Rattle.plan_file.proofs.Places.{place-here, place-more, place-end}
 use borrow.Author.Needs.{needs}
 use Rattle.plan_file.proofs.place_in.Statement.{statement}
@@ -15,7 +15,7 @@ use Rattle.plan_file.proofs.place_in.Tie as tie
 
 abbrev Inv-loop : tie.InvT-loop
 Inv-loop s n span name i₀ i =
-    (n ≤ length span) × (length span ≡ 16) × (i + placeOf name (drop i (map (bytesOf s) (take n span))) ≡ placeOf name (map (bytesOf s) (take n span)))
+    (n ≤ length span) × (length span ≡ 16) × (i + placeAmong name (drop i (map (bytesOf s) (take n span))) ≡ placeAmong name (map (bytesOf s) (take n span)))
 
 abbrev μ-loop : tie.MeasureT-loop
 μ-loop s n span name i₀ i = n - i
@@ -45,7 +45,7 @@ returns c =
     let a = l .before .before .before .before .args in
     sym (place-here (a .s .now) (l .before .bytes .result .now) (a .names .count) (a .names .span) (l .loop .inv .0) (l .loop .i) (omega arith) (cc))
     ∙ l .loop .inv .2
-    ∙ ap (λ (name : List ℕ). placeOf name (namesOf (a .s .now) (a .names))) (l .before .bytes .ensures)
+    ∙ ap (λ (name : List ℕ). placeAmong name (namesOf (a .s .now) (a .names))) (l .before .bytes .ensures)
 
 add-i : tie.Need-add-i Inv-loop μ-loop
 add-i c = search needs

@@ -27,26 +27,26 @@ add-reaches : tie.Need-add-reaches Inv-loop μ-loop
 add-reaches c = omega arith
 
 mul-reaches : tie.Need-mul-reaches Inv-loop μ-loop
-mul-reaches c = omega (arith, c .before .before .pre .0 .shares .fine .few)
+mul-reaches c = omega (arith, c .before .before .pre .0 .demand .fine .few)
 
 element-copy-out-reaches : tie.Need-element-copy-out-reaches Inv-loop μ-loop
-element-copy-out-reaches c = omega (arith, c .before .before .pre .0 .shares .fine .few)
+element-copy-out-reaches c = omega (arith, c .before .before .pre .0 .demand .fine .few)
 
 mul-reaches-2 : tie.Need-mul-reaches-2 Inv-loop μ-loop
-mul-reaches-2 c = omega (arith, c .before .before .before .pre .0 .shares .fine .few)
+mul-reaches-2 c = omega (arith, c .before .before .before .pre .0 .demand .fine .few)
 
 element-copy-out-reaches-2 : tie.Need-element-copy-out-reaches-2 Inv-loop μ-loop
-element-copy-out-reaches-2 c = omega (arith, c .before .before .before .pre .0 .shares .fine .few)
+element-copy-out-reaches-2 c = omega (arith, c .before .before .before .pre .0 .demand .fine .few)
 
 add-reaches-2 : tie.Need-add-reaches-2 Inv-loop μ-loop
-add-reaches-2 c = omega (arith, c .before .before .before .before .pre .0 .shares .most (c .before .before .before .loop .s) (c .before .before .loop-test .taken))
+add-reaches-2 c = omega (arith, c .before .before .before .before .pre .0 .demand .most (c .before .before .before .loop .s) (c .before .before .loop-test .taken))
 
 reaches-requires : tie.Need-reaches-requires Inv-loop μ-loop
 reaches-requires c κs =
     let s = c .before .before .before .before in
     let k = c .before .before .before .loop .s in
     let l = c .before .before .loop-test .taken in
-    let f = s .pre .0 .shares in
+    let f = s .pre .0 .demand in
     (f, f .fine .some k l, f .fine .most k l, omega (arith, s .pre .0 .some k l), omega (arith, f .most k l), s .pre .1)
 
 returns : tie.Need-returns Inv-loop μ-loop
@@ -59,10 +59,10 @@ returns c =
     stuck-here (a .periods .now) (a .sums .now) (a .holdings .now) (a .n) f (a .best) (l .s) (l .below) (r .reaches .result) h (l .inv .1) (r .reaches .ensures) (c .if1 .taken)
 
 mul-larger : tie.Need-mul-larger Inv-loop μ-loop
-mul-larger c = omega (arith, c .before .before .before .before .before .before .pre .0 .shares .fine .few)
+mul-larger c = omega (arith, c .before .before .before .before .before .before .pre .0 .demand .fine .few)
 
 element-copy-out-larger : tie.Need-element-copy-out-larger Inv-loop μ-loop
-element-copy-out-larger c = omega (arith, c .before .before .before .before .before .before .pre .0 .shares .fine .few)
+element-copy-out-larger c = omega (arith, c .before .before .before .before .before .before .pre .0 .demand .fine .few)
 
 larger-requires : tie.Need-larger-requires Inv-loop μ-loop
 larger-requires c κs = tt
@@ -80,7 +80,7 @@ loop-again c =
     let f = r .before .before .before .before .before .pre .0 in
     let l = r .before .before .before .before .loop in
     let h = r .before .before .before .loop-test .taken in
-    let held : getD (a .holdings .now) (l .s) 0 ≤ 2 ^ 22 = omega (arith, f .holds (l .s) h, f .shares .most (l .s) h) in (
+    let held : getD (a .holdings .now) (l .s) 0 ≤ 2 ^ 22 = omega (arith, f .holds (l .s) h, f .demand .most (l .s) h) in (
       stuck-next (a .periods .now) (a .sums .now) (a .holdings .now) (a .n) f (a .best) (l .s) (l .below) (r .reaches .result) h (l .inv .1) (r .reaches .ensures) (c .before .before .if1 .left) (l .inv .0),
       omega (arith, c .larger .ensures, l .inv .1, blocking-next (a .periods .now) (a .sums .now) (a .holdings .now) (a .n) (l .s) h),
       omega arith,

@@ -33,26 +33,26 @@ add-bound-of : tie.Need-add-bound-of Inv-loop μ-loop
 add-bound-of c = omega arith
 
 mul-bound-of : tie.Need-mul-bound-of Inv-loop μ-loop
-mul-bound-of c = omega (arith, c .before .before .pre .0 .shares .fine .few)
+mul-bound-of c = omega (arith, c .before .before .pre .0 .demand .fine .few)
 
 element-copy-out-bound-of : tie.Need-element-copy-out-bound-of Inv-loop μ-loop
-element-copy-out-bound-of c = omega (arith, c .before .before .pre .0 .shares .fine .few)
+element-copy-out-bound-of c = omega (arith, c .before .before .pre .0 .demand .fine .few)
 
 mul-bound-of-2 : tie.Need-mul-bound-of-2 Inv-loop μ-loop
-mul-bound-of-2 c = omega (arith, c .before .before .before .pre .0 .shares .fine .few)
+mul-bound-of-2 c = omega (arith, c .before .before .before .pre .0 .demand .fine .few)
 
 element-copy-out-bound-of-2 : tie.Need-element-copy-out-bound-of-2 Inv-loop μ-loop
-element-copy-out-bound-of-2 c = omega (arith, c .before .before .before .pre .0 .shares .fine .few)
+element-copy-out-bound-of-2 c = omega (arith, c .before .before .before .pre .0 .demand .fine .few)
 
 add-bound-of-2 : tie.Need-add-bound-of-2 Inv-loop μ-loop
-add-bound-of-2 c = let s = c .before .before .before .before in omega (arith, s .pre .0 .shares .most (c .before .before .before .loop .s) (c .before .before .loop-test .taken))
+add-bound-of-2 c = let s = c .before .before .before .before in omega (arith, s .pre .0 .demand .most (c .before .before .before .loop .s) (c .before .before .loop-test .taken))
 
 bound-of-requires : tie.Need-bound-of-requires Inv-loop μ-loop
 bound-of-requires c κs =
     let s = c .before .before .before .before in
     let k = c .before .before .before .loop .s in
     let l = c .before .before .loop-test .taken in
-    let f = s .pre .0 .shares in
+    let f = s .pre .0 .demand in
     (f, f .fine .some k l, f .fine .most k l, omega (arith, s .pre .0 .some k l), omega (arith, f .most k l))
 
 -- the bound of the row at the place s
@@ -92,10 +92,10 @@ joined c =
     (c .if1 .came)
 
 mul-larger : tie.Need-mul-larger Inv-loop μ-loop
-mul-larger c = omega (arith, c .before .before .before .before .before .before .before .pre .0 .shares .fine .few)
+mul-larger c = omega (arith, c .before .before .before .before .before .before .before .pre .0 .demand .fine .few)
 
 element-copy-out-larger : tie.Need-element-copy-out-larger Inv-loop μ-loop
-element-copy-out-larger c = omega (arith, c .before .before .before .before .before .before .before .pre .0 .shares .fine .few)
+element-copy-out-larger c = omega (arith, c .before .before .before .before .before .before .before .pre .0 .demand .fine .few)
 
 larger-requires : tie.Need-larger-requires Inv-loop μ-loop
 larger-requires c κs = tt
@@ -114,7 +114,7 @@ loop-again c =
     let l = b .before .before .before .before .loop in
     let h = b .before .before .before .loop-test .taken in
     let e = joined (c .before .before) in
-    let held : getD (a .holdings .now) (l .s) 0 ≤ 2 ^ 22 = omega (arith, f .holds (l .s) h, f .shares .most (l .s) h) in
+    let held : getD (a .holdings .now) (l .s) 0 ≤ 2 ^ 22 = omega (arith, f .holds (l .s) h, f .demand .most (l .s) h) in
     (e, omega (arith, c .larger .ensures, l .inv .1, blocking-next (a .periods .now) (a .sums .now) (a .holdings .now) (a .n) (l .s) h), omega arith, omega (arith, c .larger .ensures))
 
 returns : tie.Need-returns Inv-loop μ-loop
