@@ -8,20 +8,22 @@
 //! - [`literal`]: all of it again by brute force, for small files
 //! - [`random`]: made-up plan files
 //! - [`timing`]: nanoseconds a run
-//! - [`cases`]: the plan files of crates/cases and what the program must print of each
+//! - [`programs`]: the programs under crates/ and what each must print
+//! - [`by_hand`]: the numbers that the test program of that name hands over
 //! - `library`: the planner's own library, with the feature of that name
 //!
 //! This page has the operations that a caller may use with any input.
 
 use std::ops::Range;
 
-pub mod cases;
+pub mod by_hand;
 pub mod file;
 #[cfg(feature = "library")]
 pub mod library;
 pub mod listing;
 pub mod literal;
 pub mod local;
+pub mod programs;
 pub mod random;
 pub mod system;
 pub mod timing;
@@ -40,6 +42,14 @@ pub const PROGRAM_ROOM: usize = 8192;
 pub struct Refusal {
     pub number: u32,
     pub place: usize,
+}
+
+/// The number and the place of an answer: 0 and 0 if it is no refusal.
+pub fn number_and_place<T>(answer: &Result<T, Refusal>) -> (u32, usize) {
+    match answer {
+        Ok(_) => (0, 0),
+        Err(refusal) => (refusal.number, refusal.place),
+    }
 }
 
 /// A refusal as an `Err`.

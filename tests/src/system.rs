@@ -12,6 +12,16 @@ pub struct Row {
     pub holding: u64,
 }
 
+impl From<(u64, u64, u64)> for Row {
+    fn from((period, budget, holding): (u64, u64, u64)) -> Self {
+        Row {
+            period,
+            budget,
+            holding,
+        }
+    }
+}
+
 impl Row {
     fn sum(&self) -> u64 {
         self.budget + self.holding

@@ -8,7 +8,7 @@ use std::{env, fs};
 use reference::random::{self, Random, Sizes};
 use reference::system::Row;
 use reference::{
-    candidates, cases, library, name, plan, supply_answer, weigh, Refusal, PROGRAM_ROOM,
+    candidates, library, name, plan, programs, supply_answer, weigh, Refusal, PROGRAM_ROOM,
 };
 
 /// Every part number of a file of up to 16 parts, and some that no part has.
@@ -71,8 +71,8 @@ fn same_in_every_room(file: &[u8]) {
 
 /// The plan files of the cases and of bench/.
 fn files() -> Vec<Vec<u8>> {
-    let cases = cases::all().expect("the cases").into_iter();
-    let mut files: Vec<Vec<u8>> = cases.map(|case| case.file).collect();
+    let cases = programs::CASES.files().expect("the cases").into_iter();
+    let mut files: Vec<Vec<u8>> = cases.map(|case| case.bytes).collect();
     let bench = Path::new(env!("CARGO_MANIFEST_DIR")).join("bench");
     for entry in fs::read_dir(bench).expect("the folder") {
         let path = entry.expect("an entry").path();
@@ -159,11 +159,7 @@ fn rows_set_by_hand() {
         let longest = [20, 1000, 65_535][random.index(3)];
         let mut rows: Vec<Row> = random::rows(random, 16, longest)
             .into_iter()
-            .map(|(period, budget, holding)| Row {
-                period,
-                budget,
-                holding,
-            })
+            .map(Row::from)
             .collect();
         if random.once_in(4) && !rows.is_empty() {
             let place = random.index(rows.len());

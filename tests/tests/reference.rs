@@ -5,8 +5,8 @@ use reference::file::{self, Part, LONGEST_FILE};
 use reference::local::{self, Local, Pair};
 use reference::random::{self, Random, Sizes};
 use reference::system::{self, Candidates, Row, Weighing};
-use reference::{candidates, cases, literal, name, plan, printed, supply_answer, weigh};
-use reference::{Refusal, PROGRAM_ROOM};
+use reference::{candidates, literal, name, number_and_place, plan, printed, programs};
+use reference::{supply_answer, weigh, Refusal, PROGRAM_ROOM};
 
 // ---- helpers ----
 
@@ -18,13 +18,7 @@ fn w<S: AsRef<str>>(lines: &[S]) -> Vec<u8> {
 
 /// Number and place of a plan in the program's room; (0,0) if there is one.
 fn planned(file: &[u8]) -> (u32, usize) {
-    number_and_place(plan(file, PROGRAM_ROOM))
-}
-
-fn number_and_place<T>(answer: Result<T, Refusal>) -> (u32, usize) {
-    answer
-        .err()
-        .map_or((0, 0), |refusal| (refusal.number, refusal.place))
+    number_and_place(&plan(file, PROGRAM_ROOM))
 }
 
 fn tuple(refusal: Refusal) -> literal::Refusal {
@@ -39,12 +33,7 @@ fn signed(pairs: &[Pair]) -> Vec<(i64, i64)> {
 }
 
 fn rows(rows: &[(u64, u64, u64)]) -> Vec<Row> {
-    let row = |&(period, budget, holding): &(u64, u64, u64)| Row {
-        period,
-        budget,
-        holding,
-    };
-    rows.iter().map(row).collect()
+    rows.iter().copied().map(Row::from).collect()
 }
 
 fn signed_rows(rows: &[Row]) -> Vec<literal::Row> {
@@ -72,7 +61,7 @@ fn weighed(list: &[(u64, u64, u64)]) -> (Vec<(i64, i64)>, usize, (i64, i64)) {
 
 /// Number and place of weighing rows (P,Q,X).
 fn unweighed(list: &[(u64, u64, u64)]) -> (u32, usize) {
-    number_and_place(weigh(&rows(list)))
+    number_and_place(&weigh(&rows(list)))
 }
 
 fn lossy(bytes: &[u8]) -> String {
@@ -82,18 +71,17 @@ fn lossy(bytes: &[u8]) -> String {
 // ---- the expected listings ----
 
 #[test]
-fn every_case_prints_its_expected_text() {
-    let mut rest = lossy(&cases::expected().expect("the expected output"));
-    let cases = cases::all().expect("the cases");
+fn every_program_is_expected_to_print_what_the_reference_gives() {
+    let cases = programs::CASES.files().expect("the cases");
     assert!(cases.len() >= 256, "only {} cases", cases.len());
-    for case in cases {
-        let text = lossy(&cases::head(&case)) + &lossy(&printed(&case.file));
-        match rest.strip_prefix(&text) {
-            Some(behind) => rest = behind.to_owned(),
-            None => panic!("expected is another text than\n{text}"),
+    for program in programs::ALL {
+        let expected = lossy(&program.expected().expect("the expected output"));
+        let by_reference = lossy(&program.by_reference().expect("the program's files"));
+        for (number, (line, other)) in (1..).zip(by_reference.lines().zip(expected.lines())) {
+            assert_eq!(line, other, "line {number} of {}", program.name);
         }
+        assert_eq!(by_reference, expected, "{}", program.name);
     }
-    assert_eq!(rest, "");
 }
 
 // ---- the fast reference against brute force ----
@@ -145,7 +133,7 @@ fn same_reading(bytes: &[u8]) -> (u32, usize) {
             .map_err(tuple);
         assert_eq!(fast, literal::name(bytes, part), "{}", lossy(bytes));
     }
-    number_and_place(fast)
+    number_and_place(&fast)
 }
 
 #[test]
@@ -305,7 +293,7 @@ fn weighing_equals_brute_force() {
         let longest = [20, 100, 700][round % 3];
         let list = random::rows(&mut random, 6, longest);
         let fast = weigh(&rows(&list));
-        seen[number_and_place(fast.clone()).0 as usize] += 1;
+        seen[number_and_place(&fast).0 as usize] += 1;
         let slow: Vec<literal::Row> = list
             .iter()
             .map(|&(p, q, x)| (p as i64, q as i64, x as i64))
@@ -389,7 +377,7 @@ fn larger_files_get_answers_that_hold() {
         if let Ok(listing) = plan(&file, PROGRAM_ROOM) {
             planned += 1;
             assert_eq!(plan(&file, listing.len()).as_ref(), Ok(&listing));
-            assert_eq!(number_and_place(plan(&file, listing.len() - 1)), (14, 0));
+            assert_eq!(number_and_place(&plan(&file, listing.len() - 1)), (14, 0));
         }
     }
     assert!(planned > 10, "{planned} planned");
@@ -859,7 +847,7 @@ fn n11_supply_at_0() {
         (0, 0, 0),
     ] {
         assert_eq!(
-            number_and_place(supply_answer(period, budget, time)),
+            number_and_place(&supply_answer(period, budget, time)),
             (12, 0)
         );
     }
@@ -875,7 +863,7 @@ fn n12_part_numbers() {
         "task t 40 1 40",
         "end",
     ]);
-    let number = |part| number_and_place(candidates(&file, part));
+    let number = |part| number_and_place(&candidates(&file, part));
     assert_eq!(
         [0, 1, 2, 3].map(number),
         [(12, 0), (10, 1), (0, 0), (12, 0)]
@@ -883,14 +871,14 @@ fn n12_part_numbers() {
     assert_eq!(planned(&file), (10, 1));
     assert_eq!(name(&file, 1), Ok(5..6));
     assert_eq!(name(&file, 2).map(|stretch| &file[stretch]), Ok(&b"q"[..]));
-    assert_eq!(number_and_place(name(&file, 3)), (12, 0));
-    assert_eq!(number_and_place(name(&file, usize::MAX)), (12, 0));
+    assert_eq!(number_and_place(&name(&file, 3)), (12, 0));
+    assert_eq!(number_and_place(&name(&file, usize::MAX)), (12, 0));
 }
 
 #[test]
 fn n13_room_for_the_listing() {
     let none = w(&["part p 10", "task t 10 6 10", "task u 10 6 10", "end"]);
-    assert_eq!(number_and_place(plan(&none, 0)), (10, 1));
+    assert_eq!(number_and_place(&plan(&none, 0)), (10, 1));
     let file = w(&["part p 10", "task t 10 10 10", "end"]);
     let listing = b"load\tp\t10\t10\nshare\tp\t10\t10\t0\t10\t10\n";
     assert_eq!(plan(&file, 35), Ok(listing.to_vec()));

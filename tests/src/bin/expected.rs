@@ -1,16 +1,9 @@
-//! Writes what the test program of crates/cases must print, by the reference:
-//! `cargo run --release --bin expected >../crates/cases/stdout`.
+//! Writes the file `stdout` of every program under crates/ anew, by the reference.
 
-use std::error::Error;
-use std::io::{self, Write};
+use std::io;
 
-use reference::{cases, printed};
+use reference::programs;
 
-fn main() -> Result<(), Box<dyn Error>> {
-    let mut out = io::stdout().lock();
-    for case in cases::all()? {
-        out.write_all(&cases::head(&case))?;
-        out.write_all(&printed(&case.file))?;
-    }
-    Ok(())
+fn main() -> io::Result<()> {
+    programs::ALL.iter().try_for_each(|program| program.renew())
 }
