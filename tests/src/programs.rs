@@ -20,6 +20,11 @@ pub const CASES: Program = Program {
     by_reference: listings_of_files,
 };
 
+pub const FIGURES: Program = Program {
+    name: "figures",
+    by_reference: kept_lists_of_files,
+};
+
 /// Every program.
 pub const ALL: [Program; 5] = [
     Program {
@@ -31,10 +36,7 @@ pub const ALL: [Program; 5] = [
         name: "rooms",
         by_reference: plans_in_rooms,
     },
-    Program {
-        name: "figures",
-        by_reference: kept_lists_of_files,
-    },
+    FIGURES,
     Program {
         name: "by_hand",
         by_reference: supplies_and_weighings,

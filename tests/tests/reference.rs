@@ -1,6 +1,7 @@
 //! The fast reference against the expected listings, against brute force, and against the
 //! readings of the paper's open places.
 
+use reference::by_hand::{SUPPLIES, WEIGHINGS};
 use reference::file::{self, Part, LONGEST_FILE};
 use reference::local::{self, Local, Pair};
 use reference::random::{self, Random, Sizes};
@@ -342,6 +343,39 @@ fn selection_from_made_up_lists_equals_brute_force() {
         passed > 500 && failed > 100,
         "{passed} passed, {failed} failed"
     );
+}
+
+#[test]
+fn kept_lists_of_the_figures_equal_brute_force() {
+    for file in programs::FIGURES.files().expect("the figures") {
+        let parts = file::read(&file.bytes).expect("a readable file");
+        for part in 1..=parts.len() {
+            let fast = candidates(&file.bytes, part)
+                .map(|pairs| signed(&pairs))
+                .map_err(tuple);
+            let slow = literal::candidates(&file.bytes, part);
+            assert_eq!(fast, slow, "part {part} of {}", file.name);
+        }
+    }
+}
+
+#[test]
+fn supplies_and_weighings_by_hand_equal_brute_force() {
+    for &(period, budget, times) in SUPPLIES {
+        for &time in times {
+            if let Ok(ticks) = supply_answer(period, budget, time) {
+                let slow = literal::supply(period as i64, budget as i64, time as i64);
+                assert_eq!(ticks, slow as u64, "({period},{budget}) at {time}");
+            }
+        }
+    }
+    for list in WEIGHINGS {
+        let rows = rows(list);
+        let fast = weigh(&rows)
+            .map(|weighing| signed_weighing(&weighing))
+            .map_err(tuple);
+        assert_eq!(fast, literal::weigh(&signed_rows(&rows)), "{list:?}");
+    }
 }
 
 #[test]
