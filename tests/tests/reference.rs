@@ -181,6 +181,14 @@ fn counts_at_their_limits_are_read_alike() {
     }
 }
 
+/// The same kept list or the same refusal.
+fn same_candidates(file: &[u8], part: usize) {
+    let fast = candidates(file, part).map(|pairs| signed(&pairs));
+    let slow = literal::candidates(file, part);
+    let text = lossy(file);
+    assert_eq!(fast.map_err(tuple), slow, "part {part} of\n{text}");
+}
+
 /// What a batch of files was like.
 #[derive(Debug, Default)]
 struct Seen {
@@ -218,10 +226,7 @@ fn small_plans_equal_brute_force() {
 
         let parts = file::read(&file).expect("a readable file");
         for (number, part) in (1..).zip(&parts) {
-            let fast = candidates(&file, number)
-                .map(|pairs| signed(&pairs))
-                .map_err(tuple);
-            assert_eq!(fast, literal::candidates(&file, number), "{}", lossy(&file));
+            same_candidates(&file, number);
             let pairs = local::candidates(part);
             seen.longer_lists += usize::from(pairs.len() > 1);
             if let (Ok(listing), Some(first)) = (&slow, pairs.first()) {
@@ -286,6 +291,18 @@ fn lists_and_ceilings_of_one_part_equal_brute_force() {
     assert!(longest >= 4, "no list longer than {longest}");
 }
 
+/// The same weighing or the same refusal, of which number and place are given.
+fn same_weighing(list: &[(u64, u64, u64)]) -> (u32, usize) {
+    let rows = rows(list);
+    let fast = weigh(&rows);
+    let answer = number_and_place(&fast);
+    let fast = fast
+        .map(|weighing| signed_weighing(&weighing))
+        .map_err(tuple);
+    assert_eq!(fast, literal::weigh(&signed_rows(&rows)), "{list:?}");
+    answer
+}
+
 #[test]
 fn weighing_equals_brute_force() {
     let mut random = Random::new(4);
@@ -293,16 +310,7 @@ fn weighing_equals_brute_force() {
     for round in 0..6000 {
         let longest = [20, 100, 700][round % 3];
         let list = random::rows(&mut random, 6, longest);
-        let fast = weigh(&rows(&list));
-        seen[number_and_place(&fast).0 as usize] += 1;
-        let slow: Vec<literal::Row> = list
-            .iter()
-            .map(|&(p, q, x)| (p as i64, q as i64, x as i64))
-            .collect();
-        let fast = fast
-            .map(|weighing| signed_weighing(&weighing))
-            .map_err(tuple);
-        assert_eq!(fast, literal::weigh(&slow), "{list:?}");
+        seen[same_weighing(&list).0 as usize] += 1;
     }
     assert!(
         seen[0] > 1000 && seen[12] > 100 && seen[13] > 1000,
@@ -350,11 +358,7 @@ fn kept_lists_of_the_figures_equal_brute_force() {
     for file in programs::FIGURES.files().expect("the figures") {
         let parts = file::read(&file.bytes).expect("a readable file");
         for part in 1..=parts.len() {
-            let fast = candidates(&file.bytes, part)
-                .map(|pairs| signed(&pairs))
-                .map_err(tuple);
-            let slow = literal::candidates(&file.bytes, part);
-            assert_eq!(fast, slow, "part {part} of {}", file.name);
+            same_candidates(&file.bytes, part);
         }
     }
 }
@@ -370,11 +374,7 @@ fn supplies_and_weighings_by_hand_equal_brute_force() {
         }
     }
     for list in WEIGHINGS {
-        let rows = rows(list);
-        let fast = weigh(&rows)
-            .map(|weighing| signed_weighing(&weighing))
-            .map_err(tuple);
-        assert_eq!(fast, literal::weigh(&signed_rows(&rows)), "{list:?}");
+        same_weighing(list);
     }
 }
 
