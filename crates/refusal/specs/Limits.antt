@@ -1,4 +1,4 @@
--- The limits of paper 01, each named once.
+-- The limits that the questions ask about.
 --   numberLimit == the greatest number of a file, and of a period, a budget, a holding time or a time set by hand
 --   fileLimit   == the greatest length of a file in bytes
 --   partLimit, taskLimit, lockLimit == parts in a file, tasks in a part, different lock names in a part
