@@ -1,9 +1,9 @@
 // Supplies and weighings of the documents' figures and of the readings, and numbers at and past the limits. 'stdout' has what they should be.
-use least::Frac;
 use libc::STDOUT_FILENO;
-use load::Row;
-use load::Rows;
-use load::Weighed;
+use planner::Frac;
+use planner::Row;
+use planner::Rows;
+use planner::Weighed;
 
 fn print_number(before: &[u8], n: u64) {
     io::write_all(STDOUT_FILENO, before);
@@ -16,8 +16,8 @@ fn print_supply(p: u64, q: u64, t: u64) {
     print_number(b"supply\t", p);
     print_number(b"\t", q);
     print_number(b"\t", t);
-    print_number(b"\t", refusal::number(o));
-    print_number(b"\t", refusal::place(o));
+    print_number(b"\t", planner::number(o));
+    print_number(b"\t", planner::place(o));
     print_number(b"\t", a.ticks);
     io::write_all(STDOUT_FILENO, b"\n");
 }
@@ -171,9 +171,9 @@ fn print_weighing(rows: Rows) {
     print_rows(rows);
     let w = planner::weigh(rows);
     let o = w.outcome;
-    let number = refusal::number(o);
+    let number = planner::number(o);
     print_number(b"\t= ", number);
-    print_number(b"\t", refusal::place(o));
+    print_number(b"\t", planner::place(o));
     if number == 0 {
         print_bounds(w, rows.count);
         let load = w.load;

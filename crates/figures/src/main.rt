@@ -1,7 +1,7 @@
 // The kept list of every part of each file that the arguments name, one part a line: the file, the part's number and name, the number and the place of
 // the answer, then the pairs Q,X. 'stdout' has what the figures of the documents say.
-use candidates::Kept;
 use libc::STDOUT_FILENO;
+use planner::Kept;
 
 fn print_pairs(kept: Kept) {
     let count = kept.count;
@@ -23,7 +23,7 @@ fn print_pairs(kept: Kept) {
 fn print_part(name: &[u8], file: &[u8], part: usize) -> bool {
     let a = planner::candidates(file, part);
     let o = a.outcome;
-    let number = refusal::number(o);
+    let number = planner::number(o);
     if number == 12 {
         return false;
     }
@@ -35,7 +35,7 @@ fn print_part(name: &[u8], file: &[u8], part: usize) -> bool {
     io::write_all(STDOUT_FILENO, b"\t");
     io::print_decimal(STDOUT_FILENO, number);
     io::write_all(STDOUT_FILENO, b"\t");
-    io::print_decimal(STDOUT_FILENO, refusal::place(o));
+    io::print_decimal(STDOUT_FILENO, planner::place(o));
     let kept = a.kept;
     print_pairs(kept);
     io::write_all(STDOUT_FILENO, b"\n");

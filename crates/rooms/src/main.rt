@@ -7,9 +7,9 @@ use libc::STDOUT_FILENO;
 fn print_plan(file: &[u8], out: &mut [u8]) {
     let p = planner::plan(file, out);
     let o = p.outcome;
-    io::print_decimal(STDOUT_FILENO, refusal::number(o));
+    io::print_decimal(STDOUT_FILENO, planner::number(o));
     io::write_all(STDOUT_FILENO, b"\t");
-    io::print_decimal(STDOUT_FILENO, refusal::place(o));
+    io::print_decimal(STDOUT_FILENO, planner::place(o));
     io::write_all(STDOUT_FILENO, b"\t");
     io::print_decimal(STDOUT_FILENO, p.written as u64);
     io::write_all(STDOUT_FILENO, b"\n");
