@@ -2,4 +2,5 @@ pub mod Local
 pub mod Demand3
 pub mod Exactly
 pub mod Short
-pub mod Demands
+pub mod Demand2
+pub mod Demand1
