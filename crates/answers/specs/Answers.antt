@@ -5,9 +5,12 @@
 --   supplyAnswer P Q t == the supply of (P,Q) in t ticks, or 12
 --   planQuestions, candidateQuestions, nameQuestions, supplyQuestions == what each of them asks, in this order, behind questions 1 to 9
 --   planned a, candidateList a, nameBytes a, supplied a == such an answer as the operation hands it over: a refusal has zeros everywhere else
---   bufferAfter a out  == the lent bytes behind a plan: the listing and, behind it, what was there; all as it was on refusal
+--   bufferAfter a out  == the lent bytes after a plan: the listing and, after it, what was there; all as it was on refusal
+--   HandedOver a before r after == r is the result and `after` the lent bytes once the answer a is handed over; `before` are the lent bytes before that
+--   PlanAnswered s before r after == what `plan` promises, for every file s and all lent bytes
 -- Assumes nothing.
 use Prim.Native.Nat.{ℕ}
+use mathlib.Core.Path.{_≡_}
 use mathlib.Core.Bool.{Bool, not, _&&_}
 use mathlib.Core.List.{List, [], _∷_, _++_, map}
 use lib.Dec.{leb}
@@ -88,6 +91,13 @@ planned (refused r) = record { outcome = Refused r; written = 0 }
 unfoldable pub bufferAfter : Answer (List ℕ) → List ℕ → List ℕ
 bufferAfter (answered text) out = text ++ drop (length text) out
 bufferAfter (refused r) out = out
+
+pub record HandedOver (a : Answer (List ℕ)) (before : List ℕ) (r : Planned) (after : List ℕ) : Type 0 where
+  pub result : r ≡ planned a
+  pub bytes : after ≡ bufferAfter a before
+
+abbrev pub PlanAnswered : List ℕ → List ℕ → Planned → List ℕ → Type 0
+PlanAnswered s before r after = HandedOver (planOf s (length before)) before r after
 
 unfoldable pub candidateList : Answer (List Pair) → CandidateList
 candidateList (answered kept) = record { outcome = Done; kept = keptAnswer kept }

@@ -3,11 +3,7 @@
 use Prim.Native.Nat.{ℕ, _≤_}
 use native.Mathlib.Omega.{arith}
 use mathlib.Core.Path.{_≡_, refl, sym, ap, _∙_}
-use mathlib.Core.Bool.{cond}
 use mathlib.Core.List.{List}
-use borrow.Author.Tests.{le-leb}
-use lib.Dec.{leb}
-use lib.ListN.{length}
 use Rattle.refusal.specs.declared.Refusal.{Refusal}
 use Rattle.refusal.specs.declared.Refusal.the-variants.{NoRoom}
 use Rattle.refusal.specs.Number.{refusalNumber}
@@ -20,10 +16,10 @@ use Rattle.plan_file.proofs.Fine.{read-fine, read-few}
 use Rattle.plan_file.proofs.Refusals.{read-refused-to-nine}
 use Rattle.answers.specs.Answers.{planOf}
 use Rattle.planning.proofs.Answering.{plan-unread}
-use Rattle.planner.specs.Demand3.{NoneToPlan, Planning}
+use Rattle.planner.specs.Demand3.{NoneToPlan, Demanded}
 use Rattle.planner.specs.Demand3.NoneToPlan.{ten, eleven}
-use Rattle.planner.specs.Demand3.Planning.{refusing, planning}
-use Rattle.planner.proofs.Demand3.{demand-3}
+use Rattle.planner.specs.Demand3.Demanded.{none-passes, fits, too-long}
+use Rattle.planner.proofs.Demand3.{plan-demanded}
 use Rattle.planner.proofs.Short.{printed-most}
 use Rattle.console.specs.Printed.{programRoom}
 
@@ -35,19 +31,16 @@ none-to-11 : {ps : List FilePart} {r : Refusal} → NoneToPlan ps r → refusalN
 none-to-11 (ten n) = omega arith
 none-to-11 (eleven each never) = omega arith
 
-fits-not-14 : (text : List ℕ) (room : ℕ) → length text ≤ room → cond (leb (length text) room) (answered text) (refused NoRoom) ≡ refused NoRoom → ⊥
-fits-not-14 text room h e = answered-not-refused (simp (le-leb (length text) room h) at e)
-
 pub enough-room : (room : ℕ) → 3690 ≤ room → (s : List ℕ) → planOf s room ≡ refused NoRoom → ⊥
 enough-room room h s e = go (readFile s) refl
   where
-    read : (ps : List FilePart) → readFile s ≡ answered ps → Planning planOf s ps → ⊥
-    read ps f (refusing r n are) = number-not-14 r (none-to-11 n) (answer-same-refusal (sym (are room) ∙ e))
-    read ps f (planning text p are) =
-        fits-not-14 text room (omega (arith, printed-most (read-fine s ps f) p (read-few s ps f))) (sym (are room) ∙ e)
+    read : (ps : List FilePart) → readFile s ≡ answered ps → (a : Answer (List ℕ)) → a ≡ refused NoRoom → Demanded ps room a → ⊥
+    read ps f a d (none-passes {r} n) = number-not-14 r (none-to-11 n) (answer-same-refusal d)
+    read ps f a d (fits p l) = answered-not-refused d
+    read ps f a d (too-long p l) = omega (arith, l, printed-most (read-fine s ps f) p (read-few s ps f))
 
     go : (a : Answer (List FilePart)) → readFile s ≡ a → ⊥
-    go (answered ps) f = read ps f (demand-3 s ps f)
+    go (answered ps) f = read ps f (planOf s room) e (plan-demanded s room ps f)
     go (refused r) f = number-not-14 r (omega (arith, read-refused-to-nine s r f)) (answer-same-refusal (sym (plan-unread s r f room) ∙ e))
 
 -- the program lends 8,192 bytes, enough for any listing

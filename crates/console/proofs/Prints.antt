@@ -18,8 +18,8 @@ use Rattle.writer.proofs.Written.{written-whole}
 use Rattle.listing.specs.Listing.{refusedLine}
 use Rattle.listing.proofs.Lines.{refused-length}
 use Rattle.answers.specs.declared.Planned.{Planned}
-use Rattle.answers.specs.Answers.{planOf, planned, bufferAfter}
-use Rattle.planner.proofs.Demand1.{demand-1}
+use Rattle.answers.specs.Answers.{planOf, planned, bufferAfter, PlanAnswered}
+use Rattle.planner.proofs.Demand1.{answered-fits}
 use Rattle.console.specs.declared.Printed.{Printed}
 use Rattle.console.specs.Printed.{programRoom, printedText, printedOf, printed}
 
@@ -59,21 +59,21 @@ refused-printed (refused q) r e n k n-is k-is room last count w =
     ∙ printed-over (refusedLine n k) room ∙ ap₂ (λ (i j : ℕ). printed (refusedLine i j)) n-is k-is
 
 -- the same, of a plan of the file s with the program's buffer
-module _ (s : List ℕ) (p : Planned) (after : List ℕ) (answer : p ≡ planned (planOf s (length zeros))) (buffer : after ≡ bufferAfter (planOf s (length zeros)) zeros) where
+module _ (s : List ℕ) (p : Planned) (after : List ℕ) (h : PlanAnswered s zeros p after) where
   lent : planOf s (length zeros) ≡ planOf s programRoom
   lent = ap (planOf s) (length-replicate {A = ℕ} programRoom 0)
 
   answer-is : p ≡ planned (planOf s programRoom)
-  answer-is = answer ∙ ap planned lent
+  answer-is = h .result ∙ ap planned lent
 
   buffer-is : after ≡ bufferAfter (planOf s programRoom) zeros
-  buffer-is = buffer ∙ ap (λ (a : Answer (List ℕ)). bufferAfter a zeros) lent
+  buffer-is = h .bytes ∙ ap (λ (a : Answer (List ℕ)). bufferAfter a zeros) lent
 
   pub print-listing : p .outcome ≡ Done → _≡_ {A = Printed} (record { text = after; count = p .written }) (printed (printedOf s))
   unfolding printedOf
   print-listing e =
       ap₂ (λ (l : List ℕ) (q : Planned). record { text = l; count = q .written }) buffer-is answer-is
-      ∙ done-printed (planOf s programRoom) (demand-1 .fits s programRoom) (ap (λ (q : Planned). q .outcome) (sym answer-is) ∙ e)
+      ∙ done-printed (planOf s programRoom) (answered-fits s programRoom) (ap (λ (q : Planned). q .outcome) (sym answer-is) ∙ e)
 
   pub print-refusal : (r : Refusal) → p .outcome ≡ Refused r → (n k : ℕ) → n ≡ numberOf (p .outcome) → k ≡ placeOf (p .outcome) → n < 2 ^ 64 → k < 2 ^ 64
       → (last : List ℕ) (count : ℕ) → Written 0 (refusedLine n k) after last count → _≡_ {A = Printed} (record { text = last; count = count }) (printed (printedOf s))

@@ -3,17 +3,16 @@
 use Prim.Native.Nat.{ℕ, _≤_}
 use mathlib.Core.Path.{_≡_, refl, sym, ap, subst, _∙_}
 use mathlib.Core.Logic.{_⊎_, inl, inr, ⊎-elim}
-use mathlib.Core.Bool.{Bool, true, false, cond}
 use mathlib.Core.List.{List}
-use borrow.Author.Tests.{leb-true}
-use lib.Dec.{leb}
-use lib.ListN.{length}
+use lib.ListN.{length, drop}
+use lib.Seq.{drop-append-seam}
 use Rattle.refusal.specs.declared.Refusal.{Refusal}
-use Rattle.refusal.specs.declared.Refusal.the-variants.{NoBudget, BadHandSet, NoTime, NoRoom}
+use Rattle.refusal.specs.declared.Refusal.the-variants.{NoBudget, BadHandSet, NoTime}
+use Rattle.refusal.specs.declared.Outcome.the-variants.{Refused}
 use Rattle.refusal.specs.Questions.{Question, Answer}
 use Rattle.refusal.specs.Questions.Answer.{answered, refused}
 use Rattle.refusal.specs.FirstNo.{FirstNo}
-use Rattle.refusal.proofs.Answers.{answered-not-refused, answer-same-value}
+use Rattle.refusal.proofs.Answers.{answered-not-refused, done-not-refused}
 use Rattle.refusal.proofs.Questions.{first-or-later, only-first, first-of-two, first-of-three}
 use Rattle.load.specs.Weigh.{weighQuestions, structQuestions}
 use Rattle.selection.specs.Questions.{choiceQuestions}
@@ -21,14 +20,15 @@ use Rattle.plan_file.specs.Above.{FilePart}
 use Rattle.plan_file.specs.Reading.{readFile}
 use Rattle.plan_file.proofs.Reading.{read-refused-iff}
 use Rattle.plan_file.proofs.Refusals.{read-refused-to-nine}
-use Rattle.answers.specs.Answers.{planQuestions, planOf, bufferAfter}
+use Rattle.answers.specs.declared.Planned.{Planned}
+use Rattle.answers.specs.Answers.{planQuestions, planOf, planned, bufferAfter, HandedOver, PlanAnswered}
 use Rattle.planning.proofs.Answering.{plan-unread}
-use Rattle.planner.specs.Demand1.{OfTheFile, Demand1}
+use Rattle.planner.specs.Demand1.{OfTheFile, OfThePlan, Demand1}
 use Rattle.planner.specs.Demand2.{RefusedBehind}
-use Rattle.planner.specs.Demand3.{Planning}
-use Rattle.planner.specs.Demand3.Planning.{refusing, planning}
+use Rattle.planner.specs.Demand3.{Demanded}
+use Rattle.planner.specs.Demand3.Demanded.{fits}
 use Rattle.planner.proofs.Demand2.{demand-2}
-use Rattle.planner.proofs.Demand3.{demand-3}
+use Rattle.planner.proofs.Demand3.{plan-demanded}
 
 -- the refusal of a file, or one about its parts
 module _ {s : List ℕ} {questions : List FilePart → List Question} {r : Refusal} {P : Type 0} where
@@ -46,30 +46,46 @@ some-row {i = i} (inr (inl e)) = inl (i, e)
 some-row {j = j} (inr (inr e)) = inr (j, e)
 
 -- a listing that is answered fits
-fits-or-14 : (text u : List ℕ) (room : ℕ) (b : Bool) → leb (length text) room ≡ b → cond b (answered text) (refused NoRoom) ≡ answered u → length u ≤ room
-fits-or-14 text u room true b e = subst (λ (l : List ℕ). length l ≤ room) (answer-same-value e) (leb-true (length text) room b)
-fits-or-14 text u room false b e = absurd (answered-not-refused (sym e))
+demanded-fits : {ps : List FilePart} {room : ℕ} {text : List ℕ} → Demanded ps room (answered text) → length text ≤ room
+demanded-fits (fits p l) = l
 
-answered-fits : (s : List ℕ) (room : ℕ) (text : List ℕ) → planOf s room ≡ answered text → length text ≤ room
+pub answered-fits : (s : List ℕ) (room : ℕ) (text : List ℕ) → planOf s room ≡ answered text → length text ≤ room
 answered-fits s room text e = go (readFile s) refl
   where
-    read : (ps : List FilePart) → Planning planOf s ps → length text ≤ room
-    read ps (refusing r n are) = absurd (answered-not-refused (sym e ∙ are room))
-    read ps (planning u p are) = fits-or-14 u text room (leb (length u) room) refl (sym (are room) ∙ e)
-
     go : (a : Answer (List FilePart)) → readFile s ≡ a → length text ≤ room
-    go (answered ps) f = read ps (demand-3 s ps f)
+    go (answered ps) f = demanded-fits (subst (Demanded ps room) e (plan-demanded s room ps f))
     go (refused r) f = absurd (answered-not-refused (sym e ∙ plan-unread s r f room))
 
-pub demand-1 : Demand1
-unfolding planQuestions choiceQuestions weighQuestions structQuestions bufferAfter
+plan-refusal : (s : List ℕ) (room : ℕ) (r : Refusal) → planOf s room ≡ refused r → OfThePlan r
+unfolding planQuestions choiceQuestions
+plan-refusal s room r e = numbered (λ parts f. some-budget (first-of-three _ _ _ r f)) (demand-2 .plan s room r .0 e)
+
+-- what a plan hands over
+module _ (s before : List ℕ) (r : Planned) (after : List ℕ) where
+  complete-or-refused : (a : Answer (List ℕ)) → planOf s (length before) ≡ a → HandedOver a before r after →
+      ((text : List ℕ) × (length text ≤ length before) × HandedOver (answered text) before r after) ⊎ ((x : Refusal) × OfThePlan x × HandedOver (refused x) before r after)
+  complete-or-refused (answered text) e h = inl (text, answered-fits s (length before) text e, h)
+  complete-or-refused (refused x) e h = inr (x, plan-refusal s (length before) x e, h)
+
+  refused-untouched : (a : Answer (List ℕ)) (x : Refusal) → HandedOver a before r after → r .outcome ≡ Refused x → after ≡ before
+  unfolding planned bufferAfter
+  refused-untouched (answered text) x h e = absurd (done-not-refused (sym (ap (λ (p : Planned). p .outcome) (h .result)) ∙ e))
+  refused-untouched (refused y) x h e = h .bytes
+
+  others-untouched : (a : Answer (List ℕ)) → HandedOver a before r after → drop (r .written) after ≡ drop (r .written) before
+  unfolding planned bufferAfter
+  others-untouched (answered text) h = rw (h .result, h .bytes) (drop-append-seam text (drop (length text) before))
+  others-untouched (refused x) h = ap (drop (r .written)) (h .bytes)
+
+pub demand-1 : Demand1 PlanAnswered
+unfolding weighQuestions structQuestions
 demand-1 = record {
-  plan = λ s room r e. numbered (λ parts f. some-budget (first-of-three _ _ _ r f)) (demand-2 .plan s room r .0 e);
+  plan = λ s before r after h. complete-or-refused s before r after (planOf s (length before)) refl h;
+  untouched = λ s before r after x h e. refused-untouched s before r after (planOf s (length before)) x h e;
+  others = λ s before r after h. others-untouched s before r after (planOf s (length before)) h;
   candidates = λ s k r e. numbered (λ parts f. first-of-two _ _ r f) (demand-2 .candidates s k r .0 e);
   name = λ s k r e. numbered (λ parts f. only-first _ r f) (demand-2 .name s k r .0 e);
   weigh = λ rows r e. some-row (first-of-three _ _ _ r (demand-2 .weigh rows r .0 e));
   weigh-struct = λ rows r e. ⊎-elim (λ h. inl (0, h)) (λ f. some-row (first-of-three _ _ _ r f)) (first-or-later _ _ r (demand-2 .weigh-struct rows r .0 e));
   supply = λ P Q t r e. only-first _ r (demand-2 .supply P Q t r .0 e);
-  fits = answered-fits;
-  untouched = λ s out r e. ap (λ (a : Answer (List ℕ)). bufferAfter a out) e;
 }

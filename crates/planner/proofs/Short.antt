@@ -26,7 +26,7 @@ use Rattle.plan_file.proofs.Fine.{FineFilePart, AllFine}
 use Rattle.listing.specs.Listing.{Ceiling, Share, ceilingsUnder}
 use Rattle.listing.proofs.Lengths.{ShortCeiling, ShortShare, listing-most}
 use Rattle.planning.proofs.Weighed.{deadline-most}
-use Rattle.planner.specs.Demand3.{Stands, Printed}
+use Rattle.planner.specs.Demand3.{rowsOf, shownFor, PrintedShare, Printed}
 
 -- the ceilings under a setting, of the locks of these names
 under-length : (σ : Setting) (l : ℕ) (names : List (List ℕ)) → length (ceilingsUnder σ l names) ≡ length names
@@ -65,18 +65,18 @@ unfolding tasksIn
 tasks-few p fine = rw (length-map (p .tasks) (taskIn (lockNames p))) (fine .few-tasks)
 
 -- what is printed of a part
-module _ (p : FilePart) (fine : FineFilePart p) (s : Share) (h : Stands p s) where
+module _ (p : FilePart) (fine : FineFilePart p) (s : Share) (h : PrintedShare p s) where
   period-is : s .row .period ≡ p .period
   period-is = ap (λ (r : Row). r .period) (h .is)
 
   ceilings-few : length (s .ceilings) ≤ 8
-  ceilings-few = omega (arith, ap length (h .ceilings), under-length (h .setting) 1 (lockNames p), fine .few-locks)
+  ceilings-few = omega (arith, ap length (h .ceilings), under-length (shownFor p s) 1 (lockNames p), fine .few-locks)
 
   ceiling-short : (c : Ceiling) → List·Memᴰ c (s .ceilings) → ShortCeiling c
   unfolding lockCount
   ceiling-short c m =
-      let r = under-member (h .setting) 1 (lockNames p) c (subst (List·Memᴰ c) (h .ceilings) m) in
-      let n = ceiling-most (tasksIn p) (lockCount p) (h .setting) (h .local .allowed) (r .at) (r .from) (omega (arith, r .to)) in
+      let r = under-member (shownFor p s) 1 (lockNames p) c (subst (List·Memᴰ c) (h .ceilings) m) in
+      let n = ceiling-most (tasksIn p) (lockCount p) (shownFor p s) (h .local .allowed) (r .at) (r .from) (omega (arith, r .to)) in
       record { lock = fine .lock-names-most (c .lock) (r .named); number = omega (arith, r .is, n, tasks-few p fine) }
 
   share-short : s .bound .num ≤ numberLimit → s .bound .den ≤ numberLimit → ShortShare s
@@ -84,7 +84,7 @@ module _ (p : FilePart) (fine : FineFilePart p) (s : Share) (h : Stands p s) whe
     name = omega (arith, ap length (h .name), fine .name-most);
     period = omega (arith, period-is, fine .period-most);
     budget = omega (arith, ap (λ (r : Row). r .budget) (h .is), h .local .most, fine .period-most);
-    holding = omega (arith, ap (λ (r : Row). r .holding) (h .is), deadlines-holding (tasksIn p) (lockCount p) numberLimit (deadline-most p fine) (h .setting) (h .local .allowed));
+    holding = omega (arith, ap (λ (r : Row). r .holding) (h .is), deadlines-holding (tasksIn p) (lockCount p) numberLimit (deadline-most p fine) (shownFor p s) (h .local .allowed));
     num = num;
     den = den;
     few = ceilings-few;
@@ -96,7 +96,7 @@ each-right {R = R} y (more {x = x} h hs) (List·Memᴰ·head e) = (x, List·Mem�
 each-right y (more h hs) (List·Memᴰ·tail m) = let r = each-right y hs m in (r .0, List·Memᴰ·tail (r .1), r .2)
 
 module _ {ps : List FilePart} {text : List ℕ} (fine : AllFine ps) (p : Printed ps text) where
-  rows-served : (r : Row) → List·Memᴰ r (map (λ s. s .row) (p .shares)) → (1 ≤ r .period) × (r .period ≤ numberLimit)
+  rows-served : (r : Row) → List·Memᴰ r (rowsOf (p .shares)) → (1 ≤ r .period) × (r .period ≤ numberLimit)
   rows-served r m =
       let x = map-iff (λ s. s .row) r (p .shares) .0 m in
       let q = each-right (x .0) (p .choice) (x .1) in
@@ -107,7 +107,7 @@ module _ {ps : List FilePart} {text : List ℕ} (fine : AllFine ps) (p : Printed
   shares-short : (s : Share) → List·Memᴰ s (p .shares) → ShortShare s
   shares-short s m =
       let q = each-right s (p .choice) m in
-      let b = boundsOf-small numberLimit (map (λ k. k .row) (p .shares)) rows-served (s .bound) (subst (List·Memᴰ (s .bound)) (p .bounds) (Memᴰ·map (λ k. k .bound) m)) in
+      let b = boundsOf-small numberLimit (rowsOf (p .shares)) rows-served (s .bound) (subst (List·Memᴰ (s .bound)) (p .bounds) (Memᴰ·map (λ k. k .bound) m)) in
       share-short (q .0) (fine (q .0) (q .1)) s (q .2) (b .0) (b .1)
 
   pub printed-most : length ps ≤ partLimit → length text ≤ 3690

@@ -5,10 +5,9 @@ use load::Row;
 use load::Rows;
 use load::Weighed;
 ghost use mathlib.Core.Path.{_≡_};
-ghost use lib.ListN.{length};
 ghost use Rattle.load.specs.Weigh.{weighOf, weighRows};
-ghost use Rattle.answers.specs.Answers.{planOf, planned, bufferAfter, candidatesOf, candidateList, supplyAnswer, supplied};
-ghost use Rattle.planner_c.specs.Exported.{planExported, candidatesExported, NameExported, weighExported, supplyExported};
+ghost use Rattle.answers.specs.Answers.{candidatesOf, candidateList, supplyAnswer, supplied};
+ghost use Rattle.planner_c.specs.Exported.{PlanExported, candidatesExported, NameExported, weighExported, supplyExported};
 
 #[repr(C)]
 pub struct PlanAnswer {
@@ -19,7 +18,7 @@ pub struct PlanAnswer {
 
 #[no_mangle]
 pub extern "C" fn planner_plan(file: &[u8], out: &mut [u8]) -> PlanAnswer
-    ensures { λ r. ⌜ (r ≡ planExported (planned (planOf (now (file .entry)) (length (now (out .entry)))))) × (now (out .exit) ≡ bufferAfter (planOf (now (file .entry)) (length (now (out .entry)))) (now (out .entry))) ⌝ }
+    ensures { λ r. ⌜ PlanExported (now (file .entry)) (now (out .entry)) r (now (out .exit)) ⌝ }
 {
     let a = planner::plan(file, out);
     let o = a.outcome;

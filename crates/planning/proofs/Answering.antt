@@ -45,18 +45,17 @@ use Rattle.reader.proofs.Handed.{Handed}
 use Rattle.offers.specs.declared.PlanRows.{PlanRows}
 use Rattle.offers.specs.Least.{rowsIn, planRowsWhen, planRowsOf}
 use Rattle.printing.specs.Printing.{sharesRead, listingAt, sharesIn, ToPrint}
-use Rattle.answers.specs.declared.Planned.{Planned}
 use Rattle.answers.specs.Parts.{keptRows, sharesOf}
 use Rattle.answers.specs.Choice.{FromKept}
-use Rattle.answers.specs.Answers.{planRows, planText, planQuestions, planParts, planOf, planned, bufferAfter}
+use Rattle.answers.specs.Answers.{planRows, planText, planQuestions, planParts, planOf, planned, bufferAfter, PlanAnswered}
 use Rattle.answers.proofs.PlanRows.{shares-bounds, everyKept, keptChoices, leastRows, text, leastRows-kept, leastRows-passes, planned-or-14, plan-parts}
 use Rattle.planning.proofs.Planning.{file-fine, rows-same, shares-same, listing-same, buffer-same}
 use Rattle.planning.proofs.Weighed.{kept-weighed}
 
 -- a refusal has zeros everywhere else, and no byte changes
-pub refused-is : (s out : List ℕ) (r : Refusal) → planOf s (length out) ≡ refused r → (_≡_ {A = Planned} (record { outcome = Refused r; written = 0 }) (planned (planOf s (length out)))) × (out ≡ bufferAfter (planOf s (length out)) out)
+pub refused-is : (s out : List ℕ) (r : Refusal) → planOf s (length out) ≡ refused r → PlanAnswered s out (record { outcome = Refused r; written = 0 }) out
 unfolding planned bufferAfter
-refused-is s out r e = (sym (ap planned e), sym (ap (λ (a : Answer (List ℕ)). bufferAfter a out) e))
+refused-is s out r e = record { result = sym (ap planned e); bytes = sym (ap (λ (a : Answer (List ℕ)). bufferAfter a out) e) }
 
 -- questions 1 to 9
 pub plan-unread : (s : List ℕ) (r : Refusal) → readFile s ≡ refused r → (room : ℕ) → planOf s room ≡ refused r
@@ -189,11 +188,12 @@ module _ (s : List ℕ) (f : PlanFile) (is : ReadIs s f) (h : Handed s f) (p : P
       pub no-room : length out < length shown → planOf s (length out) ≡ refused NoRoom
       no-room l = plan-no-room (length out) (rw shown-is at l)
 
-      pub printed-is : (after : List ℕ) (n : ℕ) → length shown ≤ length out → Written 0 shown out after n → (_≡_ {A = Planned} (record { outcome = Done; written = n }) (planned (planOf s (length out)))) × (after ≡ bufferAfter (planOf s (length out)) out)
+      pub printed-is : (after : List ℕ) (n : ℕ) → length shown ≤ length out → Written 0 shown out after n → PlanAnswered s out (record { outcome = Done; written = n }) after
       unfolding planned bufferAfter
       printed-is after n l written =
           let e = plan-fits (length out) (rw shown-is at l) in
-          let count : n ≡ length (text (h .parts)) = omega (arith, written .place, ap length shown-is) in (
-            ap (λ (k : ℕ). record { outcome = Done; written = k }) count ∙ sym (ap planned e),
-            buffer-same shown out after n written ∙ ap (λ (bytes : List ℕ). bytes ++ drop (length bytes) out) shown-is ∙ sym (ap (λ (a : Answer (List ℕ)). bufferAfter a out) e),
-          )
+          let count : n ≡ length (text (h .parts)) = omega (arith, written .place, ap length shown-is) in
+          record {
+            result = ap (λ (k : ℕ). record { outcome = Done; written = k }) count ∙ sym (ap planned e);
+            bytes = buffer-same shown out after n written ∙ ap (λ (bytes : List ℕ). bytes ++ drop (length bytes) out) shown-is ∙ sym (ap (λ (a : Answer (List ℕ)). bufferAfter a out) e);
+          }

@@ -4,15 +4,13 @@ use offers::PlanRows;
 use reader::PlanFile;
 use refusal::Outcome;
 use refusal::Refusal;
-ghost use mathlib.Core.Path.{_≡_};
-ghost use lib.ListN.{length};
-ghost use Rattle.answers.specs.Answers.{planOf, planned, bufferAfter};
+ghost use Rattle.answers.specs.Answers.{PlanAnswered};
 ghost use Rattle.planning.specs.Code.{ToPlan};
 
 // The listing of a plan, if it fits: question 14.
 fn print_plan(file: &[u8], f: PlanFile, p: PlanRows, out: &mut [u8]) -> Planned
     requires { ⌜ ToPlan (now file) f p ⌝ }
-    ensures { λ r. ⌜ (r ≡ planned (planOf (now (file .entry)) (length (now (out .entry))))) × (now (out .exit) ≡ bufferAfter (planOf (now (file .entry)) (length (now (out .entry)))) (now (out .entry))) ⌝ }
+    ensures { λ r. ⌜ PlanAnswered (now (file .entry)) (now (out .entry)) r (now (out .exit)) ⌝ }
 {
     let rows = p.rows;
     let w = load::weigh(rows);
@@ -32,9 +30,9 @@ fn print_plan(file: &[u8], f: PlanFile, p: PlanRows, out: &mut [u8]) -> Planned
     }
 }
 
-// The plan of a file: questions 1 to 11, then 14. Its listing stands in the first bytes lent, the others stay as they were; on refusal all do.
+// The plan of a file: questions 1 to 11, then 14. Its listing is in the first bytes lent, the others stay as they were; on refusal all do.
 pub fn plan(file: &[u8], out: &mut [u8]) -> Planned
-    ensures { λ r. ⌜ (r ≡ planned (planOf (now (file .entry)) (length (now (out .entry))))) × (now (out .exit) ≡ bufferAfter (planOf (now (file .entry)) (length (now (out .entry)))) (now (out .entry))) ⌝ }
+    ensures { λ r. ⌜ PlanAnswered (now (file .entry)) (now (out .entry)) r (now (out .exit)) ⌝ }
 {
     let f = reader::read_file(file);
     let o = f.outcome;

@@ -36,7 +36,7 @@ returns : tie.Need-returns
 returns c =
     let a = c .before .before .before .before .before .before .args in
     let p = c .before .before .before .plan in
-    print-listing (a .file .now) (p .result) (p .last .1 .0) (p .ensures .0) (p .ensures .1) (c .enum-told .given .1)
+    print-listing (a .file .now) (p .result) (p .last .1 .0) (p .ensures) (c .enum-told .given .1)
 
 returns-2 : tie.Need-returns-2
 returns-2 c =
@@ -47,7 +47,7 @@ returns-2 c =
     let n = c .before .before .before .before .number in
     let k = c .before .before .before .place in
     let w = c .before .write-refusal in
-    print-refusal (a .file .now) (p .result) (p .last .1 .0) (p .ensures .0) (p .ensures .1) (r .0 .0) (r .1) (n .result) (k .result) (n .ensures) (k .ensures) (omega arith) (omega arith) (w .last .1 .1 .0) (w .result) (w .ensures)
+    print-refusal (a .file .now) (p .result) (p .last .1 .0) (p .ensures) (r .0 .0) (r .1) (n .result) (k .result) (n .ensures) (k .ensures) (omega arith) (omega arith) (w .last .1 .1 .0) (w .result) (w .ensures)
 
 pub print-spec : {M : Type 1} → statement M
 print-spec =

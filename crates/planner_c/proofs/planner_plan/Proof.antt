@@ -19,7 +19,7 @@ same-length c = search needs
 
 returns : tie.Need-returns
 unfolding planExported
-returns c = (let e = c .before .before .before .before .plan .ensures .0 in cc, c .before .before .before .before .plan .ensures .1)
+returns c = let p = c .before .before .before .before .plan in record { answer = p .result; promised = p .ensures; is = cc }
 
 pub planner-plan-spec : {M : Type 1} → statement M
 planner-plan-spec = tie.close (tie.spec plan-requires number-requires place-requires same-length returns)
