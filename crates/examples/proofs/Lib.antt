@@ -1,3 +1,4 @@
 pub mod Opened
 pub mod F
 pub mod Examples
+pub mod WrongPlanners

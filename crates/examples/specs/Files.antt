@@ -2,6 +2,8 @@
 --   fileA, listingA == example A as it is typed, and as the program prints it
 --   cardAt P        == A with another period of the part card
 --   fileF           == table 1 of document 001, all times doubled, D = T, P = 250, locks r1 and r2
+--   fileTop, listingTop     == a file whose second part has a ceiling below the top, and its listing
+--   fileSecond, listingSecond == a file whose first choice does not pass while another does, and its listing
 --   onePart P tasks == a file with one part of period P and the given task lines
 -- Assumes nothing.
 use Prim.Native.Nat.{ℕ}
@@ -33,3 +35,15 @@ onePart P tasks = bytes "part\tp\t" ++ (bytes P ++ (bytes "\n" ++ (bytes tasks +
 
 unfoldable pub listingI : List ℕ
 listingI = bytes "load\tp\t10\t10\nshare\tp\t10\t10\t0\t10\t10\n"
+
+unfoldable pub fileTop : List ℕ
+fileTop = bytes "part\ta\t6\ntask\tt\t11\t1\t11\nlock\tl\t1\npart\tb\t6\ntask\tt\t23\t2\t23\nlock\tl\t2\ntask\tu\t23\t1\t11\nend\n"
+
+unfoldable pub listingTop : List ℕ
+listingTop = bytes "load\ta\t6\t6\nshare\ta\t6\t1\t1\t6\t6\nceiling\tl\t1\nshare\tb\t6\t1\t3\t5\t6\nceiling\tl\t1\n"
+
+unfoldable pub fileSecond : List ℕ
+fileSecond = bytes "part\ta\t15\ntask\tt\t33\t3\t33\nlock\tl\t3\ntask\tu\t33\t1\t23\npart\tb\t5\ntask\tt\t9\t1\t9\nlock\tl\t1\nend\n"
+
+unfoldable pub listingSecond : List ℕ
+listingSecond = bytes "load\ta\t15\t15\nshare\ta\t15\t6\t3\t15\t15\nceiling\tl\t2\nshare\tb\t5\t1\t1\t5\t5\nceiling\tl\t1\n"

@@ -1,0 +1,79 @@
+-- The wrong planners of paper 01, (c), each by what it does, whatever else it does; and that demand 3 shuts them out.
+--   Run            == what an operation that plans hands back: its result, and the lent bytes after it
+--   Planner        == such an operation: a run for every file and all lent bytes
+--   Does planner   == all that the planner can promise: its own result and bytes
+--   AnswersEleven  == it answers 11 to every file
+--   PrintsA        == it prints A's listing for all files
+--   LeavesBlank    == it returns with the buffer blank, where it was blank before
+--   TopAfterFirst  == it puts top ceilings in all parts but the first
+--   StopsAtFirst   == it says "none passes" where the first choice does not pass
+--   ShutOut Kind   == no planner of this kind meets demand 3
+-- Assumes nothing.
+use Prim.Native.Nat.{ℕ, _≤_}
+use mathlib.Core.Path.{_≡_}
+use mathlib.Core.Bool.{false}
+use mathlib.Core.List.{List, map}
+use lib.ListN.{length, take, drop, replicate}
+use Rattle.least.specs.Lists.{nthOr}
+use Rattle.least.specs.Each.{Each}
+use Rattle.refusal.specs.declared.Refusal.the-variants.{NoChoice}
+use Rattle.refusal.specs.declared.Outcome.the-variants.{Refused}
+use Rattle.refusal.specs.Questions.Answer.{answered}
+use Rattle.load.specs.declared.Row.{Row}
+use Rattle.load.specs.Load.{row, passesSystem}
+use Rattle.plan_file.specs.Above.{FilePart, lockNames}
+use Rattle.plan_file.specs.Numbers.{tasksIn}
+use Rattle.plan_file.specs.Reading.{readFile}
+use Rattle.listing.specs.Listing.{Share, ceilingsUnder, listingOf}
+use Rattle.answers.specs.declared.Planned.{Planned}
+use Rattle.answers.specs.Parts.{keptRows}
+use Rattle.answers.specs.Answers.{HandedOver}
+use Rattle.planner.specs.Demand3.{Demand3}
+use Rattle.examples.specs.Files.{listingA}
+
+pub record Run : Type 0 where
+  pub result : Planned
+  pub bytes : List ℕ
+
+abbrev pub Planner : Type 0
+Planner = List ℕ → List ℕ → Run
+
+abbrev pub Does : Planner → List ℕ → List ℕ → Planned → List ℕ → Type 0
+Does planner s before r after = (r ≡ planner s before .result) × (after ≡ planner s before .bytes)
+
+abbrev pub AnswersEleven : Planner → Type 0
+AnswersEleven planner = (s before : List ℕ) → planner s before .result .outcome ≡ Refused NoChoice
+
+abbrev pub PrintsA : Planner → Type 0
+PrintsA planner = (s before : List ℕ) → length listingA ≤ length before → take (length listingA) (planner s before .bytes) ≡ listingA
+
+abbrev pub LeavesBlank : Planner → Type 0
+LeavesBlank planner = (s : List ℕ) (room : ℕ) → planner s (replicate room 0) .bytes ≡ replicate room 0
+
+-- every lock of the part is printed with the number of its highest task
+abbrev pub AtTop : FilePart → Share → Type 0
+AtTop p s = s .ceilings ≡ ceilingsUnder (λ l. length (tasksIn p)) 1 (lockNames p)
+
+abbrev pub TopAfterFirst : Planner → Type 0
+TopAfterFirst planner =
+    (s before : List ℕ) (ps : List FilePart) (text : List ℕ) → readFile s ≡ answered ps →
+    HandedOver (answered text) before (planner s before .result) (planner s before .bytes) →
+    (shares : List Share) × (text ≡ listingOf shares) × Each AtTop (drop 1 ps) (drop 1 shares)
+
+-- every part with the first pair of its kept list
+abbrev pub firstChoice : List FilePart → List Row
+firstChoice ps = map (λ p. nthOr (row 0 0 0) 1 (keptRows p)) ps
+
+abbrev pub StopsAtFirst : Planner → Type 0
+StopsAtFirst planner =
+    (s before : List ℕ) (ps : List FilePart) → readFile s ≡ answered ps → passesSystem (firstChoice ps) ≡ false → planner s before .result .outcome ≡ Refused NoChoice
+
+abbrev pub ShutOut : (Planner → Type 0) → Type 0
+ShutOut Kind = (planner : Planner) → Kind planner → Demand3 (Does planner) → ⊥
+
+pub record AllShutOut : Type 0 where
+  pub answers-eleven : ShutOut AnswersEleven
+  pub prints-a : ShutOut PrintsA
+  pub leaves-blank : ShutOut LeavesBlank
+  pub top-after-first : ShutOut TopAfterFirst
+  pub stops-at-first : ShutOut StopsAtFirst
