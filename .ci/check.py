@@ -180,6 +180,8 @@ def check_edits(top):
         name, log = f'{crate}/{label}', top / 'target' / 'must-fail' / crate / label / '.log'
         if not first:
             yield f'{name}: its comment does not say what must break'
+        if re.search(r'^file: proofs/', (top / 'crates' / crate / 'must-fail' / f'{label}.edit').read_text(), re.M):
+            yield f'{name}: it changes a proof, which shows nothing'
         if not log.exists():
             yield f'{name}: no log of this must-fail edit'
             continue
@@ -190,7 +192,7 @@ def check_edits(top):
         elif found and VACUOUS.search(found[0][2]):
             yield f'{name}: refused for a vacuous reason: {found[0][2][:200]}'
         for thing in first + then:
-            own = [said for place, law, said in found if law == thing or place.startswith(folder(thing))]
+            own = [said for place, law, said in found if place.startswith(folder(thing)) or law == thing and place.count('/') == 1]
             facts = [said for said in own if not FOLLOWS.search(said)]
             if not own:
                 yield f'{name}: {thing} does not break'
@@ -199,7 +201,11 @@ def check_edits(top):
 
 
 def check_shut_outs(top):
-    """Every operation is named by two or more wrong versions of its crate."""
+    """Every library with functions has two or more wrong versions, and every operation is named by two or more."""
+    made = [crate for crate, *_ in edits(top)]
+    for crate in crates(top):
+        if made.count(crate) < 2 and any(re.search(r'\bfn ', source(path)) for path in (top / 'crates' / crate / 'src').glob('lib.rt')):
+            yield f'{crate}: a library with fewer than two wrong versions'
     named = [f'{crate}::{thing}' for crate, _, first, then in edits(top) for thing in {*first, *then}]
     for name in sorted(OPERATIONS):
         if named.count(name) < 2:
