@@ -56,9 +56,9 @@ def signatures(text):
             clause = re.search(r'\b(requires|ensures)(?:\s+\w+)?\s*$', text[at:brace])
             if not clause:
                 break
-            words.append(clause.group(1))
+            words.append(clause[1])
             at = behind_brace(text, brace)
-        yield fn.group(1), words
+        yield fn[1], words
 
 
 def public(top, name):
@@ -156,36 +156,36 @@ def folder(fn):
 
 
 def edits(top):
-    """Each must-fail edit: its crate, its label, and what its comment says must break, first of all and then because of that."""
+    """Each must-fail edit: its crate, its file, and what its comment says must break, first of all and then because of that."""
     for crate in crates(top):
         for path in sorted((top / 'crates' / crate / 'must-fail').glob('*.edit')):
             comment = ' '.join(line[1:].strip() for line in path.read_text().splitlines() if line.startswith('#'))
             said = MUST_BREAK.search(comment)
             first, then = said.groups(default='') if said else ('', '')
-            yield crate, path.stem, re.findall(r'`([^`]+)`', first), re.findall(r'`([^`]+)`', then)
+            yield crate, path, re.findall(r'`([^`]+)`', first), re.findall(r'`([^`]+)`', then)
 
 
-def errors(crate, label, text):
-    """The errors of a log: the place in the crate, the law or definition, what is said. What is said of a function without a proof file counts as in its folder."""
+def errors(name, text):
+    """The errors in an edit's log: the place in the crate, the law or definition, what is said. What is said of a function without a proof file counts as in its folder."""
     for line in re.sub(r'\n +', ' ', text).splitlines():
-        if fn := re.match(rf'fn {crate}::(\S+): (?:no proof|not proved).*; (`search` does not close .*`returns.*|it calls .*)', line):
+        if fn := re.match(r'fn \w+::(\S+): (?:no proof|not proved).*; (`search` does not close .*`returns.*|it calls .*)', line):
             yield folder(fn[1]), '', fn[2]
-        elif error := re.match(rf'(?:.*?/must-fail/{crate}/{label}/)?(\S+?):\d+:\d+: error\S*: (?:`([^`]+)`: )?(.*)', line):
+        elif error := re.match(rf'(?:.*?/must-fail/{name}/)?(\S+?):\d+:\d+: error\S*: (?:`([^`]+)`: )?(.*)', line):
             yield error[1], error[2] or '', error[3]
 
 
 def check_edits(top):
     """No edit was refused for a vacuous reason: what its comment says must break does break, and by a fact."""
-    for crate, label, first, then in edits(top):
-        name, log = f'{crate}/{label}', top / 'target' / 'must-fail' / crate / label / '.log'
+    for crate, path, first, then in edits(top):
+        name, log = f'{crate}/{path.stem}', top / 'target' / 'must-fail' / crate / path.stem / '.log'
         if not first:
             yield f'{name}: its comment does not say what must break'
-        if re.search(r'^file: proofs/', (top / 'crates' / crate / 'must-fail' / f'{label}.edit').read_text(), re.M):
+        if re.search(r'^file: proofs/', path.read_text(), re.M):
             yield f'{name}: it changes a proof, which shows nothing'
         if not log.exists():
             yield f'{name}: no log of this must-fail edit'
             continue
-        found = list(errors(crate, label, log.read_text(errors='replace')))
+        found = list(errors(name, log.read_text(errors='replace')))
         unfit = [f'{place}: {said}' for place, _, said in found if not place.startswith('proofs/')]
         if unfit:
             yield f'{name}: refused before any proof: {unfit[0][:200]}'
@@ -230,8 +230,9 @@ def check_table(top):
     text = source(top / 'crates' / 'examples' / 'specs' / 'Table.antt')
     table = re.search(r'^table =\n((?:    .*\n)*?)    ∷ \[\]$', text, re.M)
     letters = re.findall(r'^    (?:∷ )?at "(\w+)" ', table[1], re.M) if table else []
-    if letters != [letter for letter, rows in ROWS.items() for _ in range(rows)]:
-        yield f'examples: the rows of table are {" ".join(letters)}'
+    wanted = [letter for letter, rows in ROWS.items() for _ in range(rows)]
+    if letters != wanted:
+        yield f'examples: the rows of table are {" ".join(letters)}, and must be {" ".join(wanted)}'
 
 
 def check_example_a(top):

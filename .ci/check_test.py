@@ -239,8 +239,8 @@ COMMANDS = [
 
 
 class Gate(unittest.TestCase):
-    def gate(self, ci, failing='', without=''):
-        """.ci/run where `rt ci` does as told, one command fails and one is not there: status, last line, commands."""
+    def gate(self, ci, failing='', without='', tee=''):
+        """.ci/run where `rt ci` does as told, one command fails, one is not there, and tee is another: status, last line, commands."""
         with tempfile.TemporaryDirectory() as folder:
             top = Path(folder)
             for path in ('.ci/run', 'bin/rt', 'bin/python3', 'bin/cargo', 'tests/examples/run'):
@@ -249,6 +249,9 @@ class Gate(unittest.TestCase):
                 (top / path).chmod(0o755)
             if without:
                 (top / without).unlink()
+            if tee:
+                (top / 'bin' / 'tee').write_text(tee)
+                (top / 'bin' / 'tee').chmod(0o755)
             told = {**os.environ, 'PATH': f'{top}/bin:/usr/bin:/bin', 'ASKED': f'{top}/asked', 'CI': ci, 'FAILING': failing}
             run = subprocess.run([top / '.ci' / 'run'], env=told, capture_output=True, text=True)
             asked = (top / 'asked').read_text().splitlines() if (top / 'asked').exists() else []
@@ -273,6 +276,9 @@ class Gate(unittest.TestCase):
 
     def test_no_rt(self):
         self.assertEqual(self.gate('', without='bin/rt'), (1, '0 passed, 1 failed', []))
+
+    def test_nothing_is_noted(self):
+        self.assertEqual(self.gate('echo 3 passed, 0 failed', tee='#!/bin/sh\ncat\n'), (1, '0 passed, 1 failed', ['rt ci']))
 
     def test_another_command_fails(self):
         for command in COMMANDS[1:]:
