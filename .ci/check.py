@@ -62,9 +62,8 @@ def signatures(text):
 
 
 def public(top, name):
-    """The public functions of a library with their clauses."""
-    files = [path for path in sorted((top / 'crates' / name / 'src').glob('**/*.rt')) if path.name != 'main.rt']
-    return [found for path in files for found in signatures(source(path))]
+    """The public functions of a crate with their clauses."""
+    return [found for path in sorted((top / 'crates' / name / 'src').glob('**/*.rt')) for found in signatures(source(path))]
 
 
 def check_contracts(top):

@@ -42,8 +42,23 @@ impl Frac {
 }
 '''
 BARE = 'pub fn anything(a: u64) -> u64 {\n    a / 2\n}\n'
+HALF = '#[no_mangle]\npub extern "C" fn planner_half(a: u64) -> u64 {\n    a / 2\n}\n'
 FOLLOWS = 'was not admitted (it has holes or undetermined implicits, or was rejected), so this cannot be checked'
+DOWN_LOG = f'''@proofs/Round.antt:1:2: error: `ceil-least`: `omega`: the goal fails
+  at `t` = 1
+@proofs/Round.antt:9:2: error: `ceil-covers`: `ceil-least` {FOLLOWS}
+fn least::ceil_div: proved
+'''
+STEP_LOG = '''fn least::inner: no proof: expected `inner-spec` in @proofs/inner/Proof.antt; `search` does not close `returns`, `returns-2`
+fn least::ceil_div: not proved; it calls `least::inner`, which is not proved
+@proofs/Frac/next/Proof.antt:1:2: error: `returns`: `search`: no proof of `a`
+'''
 SHAPE = 'expected type `tie.Need-a`\n  but this has type `tie.Need-b`'
+TRACE = '''| mark | definition | theorem or contract | test |
+|---|---|---|---|
+| I1 | `least ceilDiv` | – | `least must-fail/down` |
+| F12 | – | `planning plan` | `docs/PAPER-01.md`, `must-fail/` |
+'''
 VERDICT = 'logic=proved functions=2 sum=0 native=nat,char,string logic-built=trusted libraries-built=trusted\n'
 
 
@@ -57,23 +72,24 @@ def log(name, lines):
 
 def right_tree():
     """The files of a tree without a fault, by path."""
+    rows = [f'at "{letter}" (refuses [] {row} 1)\n' for letter, count in check.ROWS.items() for row in range(count)]
     files = {
         'crates/least/src/lib.rt': LEAST,
         'crates/least/specs/Round.antt': 'pub ceilDiv : ℕ → ℕ\n',
         'crates/least/must-fail/down.edit': edit('law `ceil-least`, so `ceil-covers`,'),
-        'target/must-fail/least/down/.log': log('least/down', f'@proofs/Round.antt:1:2: error: `ceil-least`: `omega`: the goal fails\n  at `t` = 1\n@proofs/Round.antt:9:2: error: `ceil-covers`: `ceil-least` {FOLLOWS}\nfn least::ceil_div: proved\n'),
+        'target/must-fail/least/down/.log': log('least/down', DOWN_LOG),
         'crates/least/must-fail/step.edit': edit('`Frac::next` and `inner`, so `ceil_div`,'),
-        'target/must-fail/least/step/.log': log('least/step', 'fn least::inner: no proof: expected `inner-spec` in @proofs/inner/Proof.antt; `search` does not close `returns`, `returns-2`\nfn least::ceil_div: not proved; it calls `least::inner`, which is not proved\n@proofs/Frac/next/Proof.antt:1:2: error: `returns`: `search`: no proof of `a`\n'),
+        'target/must-fail/least/step/.log': log('least/step', STEP_LOG),
         'crates/planner/src/lib.rt': 'pub use least::Frac;\n',
         'crates/planner/proofs/Demand1.antt': 'use specs.{Demand1}\n',
         'crates/examples/src/lib.rt': '// Nothing.\n',
         'crates/examples/proofs/Examples.antt': 'use specs.{table, AllHold}\n',
         'crates/examples/specs/Files.antt': 'fileA = bytes "part\\tcard\\t20\\nend\\n"\nlistingA = bytes "load\\tcard\\n"\n',
-        'crates/examples/specs/Table.antt': 'abbrev pub table : List Example\ntable =\n    ' + '    ∷ '.join(f'at "{letter}" (refuses [] {row} 1)\n' for letter, rows in check.ROWS.items() for row in range(rows)) + '    ∷ []\n\ninfixr 60 _and_\n',
+        'crates/examples/specs/Table.antt': 'abbrev pub table : List Example\ntable =\n    ' + '    ∷ '.join(rows) + '    ∷ []\n\ninfixr 60 _and_\n',
         'crates/plan/src/main.rt': 'fn main() {\n}\n',
         'README.md': 'A file:\n\npart\tcard\t20\nend\n\nits plan:\n\nload\tcard\n',
         'docs/PAPER-01.md': '- I1. Times are whole ticks.\n- F12. A name.\n',
-        'docs/TRACE.md': '| mark | definition | theorem or contract | test |\n|---|---|---|---|\n| I1 | `least ceilDiv` | – | `least must-fail/down` |\n| F12 | – | `planning plan` | `docs/PAPER-01.md`, `must-fail/` |\n',
+        'docs/TRACE.md': TRACE,
         'include/planner.h': '',
         'tests/src/library.rs': '',
         'tests/tests/library.rs': '#[test]\nfn plans() {}\n',
@@ -85,7 +101,7 @@ def right_tree():
         crate, fn = name.split('::')
         path = f'crates/{crate}/src/lib.rt'
         head = '#[no_mangle]\npub extern "C" fn' if crate == 'planner_c' else 'pub fn'
-        files[path] = files.get(path, '') + f'// What {fn} answers.\n{head} {fn}(a: u64) -> u64\n    ensures {{ λ r. ⌜ r ≡ a ⌝ }}\n{{\n    a\n}}\n'
+        files[path] = files.get(path, '') + f'{head} {fn}(a: u64) -> u64\n    ensures {{ λ r. ⌜ r ≡ a ⌝ }}\n{{\n    a\n}}\n'
         for label in (f'{fn}_low', f'{fn}_high'):
             files[f'crates/{crate}/must-fail/{label}.edit'] = edit(f'`{fn}`')
             files[f'target/must-fail/{crate}/{label}/.log'] = log(f'{crate}/{label}', f'@proofs/{fn}/Proof.antt:1:2: error: `returns`: the two types differ\n')
@@ -111,8 +127,8 @@ SLIPS = [
     (check.check_contracts, 'least::anything: a public function without', 'crates/least/src/lib.rt', '', '#[inline]\npub fn anything(\n    a: u64,\n) -> u64 {\n    a / 2\n}\n'),
     (check.check_contracts, 'least::ceil_div: a public function without', 'crates/least/src/lib.rt', '    ensures result {', '    // ensures result {'),
     (check.check_contracts, 'least::next: a public function without', 'crates/least/src/lib.rt', '        ensures {', '        requires {'),
-    (check.check_contracts, 'planner_c::planner_half: a public function without', 'crates/planner_c/src/lib.rt', '', '#[no_mangle]\npub extern "C" fn planner_half(a: u64) -> u64 {\n    a / 2\n}\n'),
-    (check.check_contracts, 'planner_c::planner_half: an operation that .ci/check.py does not name', 'crates/planner_c/src/lib.rt', '', '#[no_mangle]\npub extern "C" fn planner_half(a: u64) -> u64 {\n    a / 2\n}\n'),
+    (check.check_contracts, 'planner_c::planner_half: a public function without', 'crates/planner_c/src/lib.rt', '', HALF),
+    (check.check_contracts, 'planner_c::planner_half: an operation that .ci/check.py does not name', 'crates/planner_c/src/lib.rt', '', HALF),
     (check.check_contracts, 'planning::plan: an operation with a requires', 'crates/planning/src/lib.rt', '\n    ensures', '\n    requires { ⌜ a < 2 ⌝ }\n    ensures'),
     (check.check_contracts, 'console::print: an operation with a requires', 'crates/console/src/lib.rt', '}\n{\n', '}\n    requires small { ⌜ a < 2 ⌝ }\n{\n'),
     (check.check_contracts, 'console::print: an operation whose signature was not found', 'crates/console/src/lib.rt', 'fn print(', 'fn printed('),
