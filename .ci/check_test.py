@@ -23,7 +23,7 @@ pub fn ceil_div(
     t: u64,
     period: u64,
 ) -> u64
-    requires { ⌜ 1 ≤ period ⌝ }
+    requires { ⌜ Positive {0} period ⌝ }
     ensures result { λ r. ⌜ r ≡ ceilDiv t period ⌝ }
 {
     inner(t)
@@ -35,7 +35,7 @@ fn inner(t: u64) -> u64 {
 
 impl Frac {
     pub fn next(self) -> Frac
-        ensures { λ r. ⌜ r ≡ nextOf {0} self ⌝ }
+        ensures { λ r. ⌜ r ≡ nextOf self ⌝ }
     {
         self
     }
@@ -170,11 +170,13 @@ SLIPS = [
     (check.check_shut_outs, 'planning::plan: an operation that fewer than two', 'crates/planning/must-fail/plan_low.edit', None, None),
     (check.check_shut_outs, 'console::print: an operation that fewer than two', 'crates/console/must-fail/print_low.edit', '`print`', '`write`'),
     (check.check_theorems, 'no theorem `demand-3 : Demand3 planOf`', 'crates/planner/proofs/Demand1.antt', 'pub demand-3 : Demand3 planOf', 'pub demand-3 : Demand3 other'),
+    (check.check_theorems, 'no theorem `demand-2 : Demand2`', 'crates/planner/proofs/Demand1.antt', 'demand-2 : Demand2\n', 'demand-2 : Demand2 → Demand2\n'),
     (check.check_theorems, 'no theorem `demand-1 : Demand1`', 'crates/planner/proofs/Demand1.antt', 'pub demand-1', '-- pub demand-1'),
     (check.check_theorems, 'no theorem `examples : AllHold table`', 'crates/examples/proofs/Examples.antt', 'AllHold table\n', 'AllHold short\n'),
     (check.check_theorems, 'table, of which the theorem examples speaks', 'crates/examples/proofs/Examples.antt', '', 'abbrev table : List Example\ntable = []\n'),
     (check.check_table, 'the rows of table are A B', 'crates/examples/specs/Table.antt', '    ∷ at "K" (refuses [] 4 1)\n', ''),
     (check.check_table, 'the rows of table are A B', 'crates/examples/specs/Table.antt', '    ∷ at "K" (refuses [] 4 1)\n', '    -- ∷ at "K" (refuses [] 4 1)\n'),
+    (check.check_table, 'the rows of table are', 'crates/examples/specs/Table.antt', 'at "D" (refuses [] 0 1)\n    ∷ at "E"', 'at "E" (refuses [] 0 1)\n    ∷ at "D"'),
     (check.check_table, 'the rows of table are', 'crates/examples/specs/Table.antt', 'at "A"', 'at "M"'),
     (check.check_table, 'the rows of table are', 'crates/examples/specs/Table.antt', 'table =\n', 'table = short\nlong =\n'),
     (check.check_example_a, 'README.md: fileA', 'README.md', 'part\tcard\t20', 'part\tcard\t21'),
