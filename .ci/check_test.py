@@ -23,7 +23,7 @@ pub fn ceil_div(
     t: u64,
     period: u64,
 ) -> u64
-    requires { ⌜ Positive {0} period ⌝ }
+    requires { ⌜ Positive {0} {1} period ⌝ }
     ensures result { λ r. ⌜ r ≡ ceilDiv t period ⌝ }
 {
     inner(t)
