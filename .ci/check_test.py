@@ -81,9 +81,7 @@ def right_tree():
         'crates/least/must-fail/step.edit': edit('`Frac::next` and `inner`, so `ceil_div`,'),
         'target/must-fail/least/step/.log': log('least/step', STEP_LOG),
         'crates/planner/src/lib.rt': 'pub use least::Frac;\n',
-        'crates/planner/proofs/Demand1.antt': 'use specs.{Demand1}\n',
         'crates/examples/src/lib.rt': '// Nothing.\n',
-        'crates/examples/proofs/Examples.antt': 'use specs.{table, AllHold}\n',
         'crates/examples/specs/Files.antt': 'fileA = bytes "part\\tcard\\t20\\nend\\n"\nlistingA = bytes "load\\tcard\\n"\n',
         'crates/examples/specs/Table.antt': 'abbrev pub table : List Example\ntable =\n    ' + '    ∷ '.join(rows) + '    ∷ []\n\ninfixr 60 _and_\n',
         'crates/plan/src/main.rt': 'fn main() {\n}\n',
@@ -95,8 +93,8 @@ def right_tree():
         'tests/tests/library.rs': '#[test]\nfn plans() {}\n',
     }
     for crate, name, says in check.THEOREMS:
-        path = 'crates/examples/proofs/Examples.antt' if crate == 'examples' else 'crates/planner/proofs/Demand1.antt'
-        files[path] += f'\npub {name} : {says}\n{name} = refl\n'
+        path = f'crates/{crate}/proofs/Theorems.antt'
+        files[path] = files.get(path, '') + f'pub {name} : {says}\n{name} = refl\n'
     for name in sorted(check.OPERATIONS):
         crate, fn = name.split('::')
         path = f'crates/{crate}/src/lib.rt'
@@ -169,11 +167,11 @@ SLIPS = [
     (check.check_shut_outs, 'least: a library with fewer than two', 'crates/least/must-fail/down.edit', None, None),
     (check.check_shut_outs, 'planning::plan: an operation that fewer than two', 'crates/planning/must-fail/plan_low.edit', None, None),
     (check.check_shut_outs, 'console::print: an operation that fewer than two', 'crates/console/must-fail/print_low.edit', '`print`', '`write`'),
-    (check.check_theorems, 'no theorem `demand-3 : Demand3 planOf`', 'crates/planner/proofs/Demand1.antt', 'pub demand-3 : Demand3 planOf', 'pub demand-3 : Demand3 other'),
-    (check.check_theorems, 'no theorem `demand-2 : Demand2`', 'crates/planner/proofs/Demand1.antt', 'demand-2 : Demand2\n', 'demand-2 : Demand2 → Demand2\n'),
-    (check.check_theorems, 'no theorem `demand-1 : Demand1`', 'crates/planner/proofs/Demand1.antt', 'pub demand-1', '-- pub demand-1'),
-    (check.check_theorems, 'no theorem `examples : AllHold table`', 'crates/examples/proofs/Examples.antt', 'AllHold table\n', 'AllHold short\n'),
-    (check.check_theorems, 'table, of which the theorem examples speaks', 'crates/examples/proofs/Examples.antt', '', 'abbrev table : List Example\ntable = []\n'),
+    (check.check_theorems, 'no theorem `demand-3 : Demand3 planOf`', 'crates/planner/proofs/Theorems.antt', 'pub demand-3 : Demand3 planOf', 'pub demand-3 : Demand3 other'),
+    (check.check_theorems, 'no theorem `demand-2 : Demand2`', 'crates/planner/proofs/Theorems.antt', 'demand-2 : Demand2\n', 'demand-2 : Demand2 → Demand2\n'),
+    (check.check_theorems, 'no theorem `demand-1 : Demand1`', 'crates/planner/proofs/Theorems.antt', 'pub demand-1', '-- pub demand-1'),
+    (check.check_theorems, 'no theorem `examples : AllHold table`', 'crates/examples/proofs/Theorems.antt', 'AllHold table\n', 'AllHold short\n'),
+    (check.check_theorems, 'table, of which the theorem examples speaks', 'crates/examples/proofs/Theorems.antt', '', 'abbrev table : List Example\ntable = []\n'),
     (check.check_table, 'the rows of table are A B', 'crates/examples/specs/Table.antt', '    ∷ at "K" (refuses [] 4 1)\n', ''),
     (check.check_table, 'the rows of table are A B', 'crates/examples/specs/Table.antt', '    ∷ at "K" (refuses [] 4 1)\n', '    -- ∷ at "K" (refuses [] 4 1)\n'),
     (check.check_table, 'the rows of table are', 'crates/examples/specs/Table.antt', 'at "D" (refuses [] 0 1)\n    ∷ at "E"', 'at "E" (refuses [] 0 1)\n    ∷ at "D"'),
