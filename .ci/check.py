@@ -1,136 +1,281 @@
 #!/usr/bin/env python3
 """The repository's own checks, after rt ci. Prints one line for each fault; exit status 1 if there is one.
 
-1. Every `pub` function has an `ensures`; the public operations have no `requires`.
-2. docs/TRACE.md names only definitions, theorems and files that exist, and has an entry for each sentence of docs/PAPER-01.md.
-3. No must-fail edit was refused for a vacuous reason (the logs under target/must-fail).
-4. The verdict line of every library crate names no axioms.
-5. Example A of the README is the file and the listing of the table of examples, byte for byte.
+Each check takes the top folder and gives its faults. .ci/check_test.py has, for each, wrong inputs that it must report.
 """
 import re
 import sys
 from pathlib import Path
 
-TOP = Path(__file__).resolve().parent.parent
-faults = []
+# What a caller may ask with any input: what planner passes on, what planner_c exports, and what the program prints.
+OPERATIONS = {
+    'planning::plan', 'inquiries::candidates', 'inquiries::name', 'inquiries::name_outcome', 'inquiries::name_stretch',
+    'load::weigh', 'hand_set::weigh_slice', 'hand_set::supply', 'refusal::number', 'refusal::place', 'console::print',
+    'planner_c::planner_plan', 'planner_c::planner_candidates', 'planner_c::planner_name',
+    'planner_c::planner_weigh', 'planner_c::planner_weigh_slice', 'planner_c::planner_supply',
+}
+# The theorems that the documents promise: crate, name, and what it says.
+THEOREMS = [
+    ('planner', 'demand-1', 'Demand1 PlanAnswered'),
+    ('planner', 'demand-2', 'Demand2'),
+    ('planner', 'demand-3', 'Demand3 PlanAnswered'),
+    ('planner', 'text-settled', '(ps : List FilePart) (text other : List ℕ) → Printed ps text → Printed ps other → text ≡ other'),
+    ('examples', 'examples', 'AllHold table'),
+    ('examples', 'all-shut-out', 'AllShutOut'),
+]
+# How many rows of the table of examples each letter has.
+ROWS = {'A': 1, 'B': 5, 'C': 2, 'D': 1, 'E': 1, 'F': 1, 'G': 1, 'H': 1, 'I': 1, 'J': 1, 'K': 5, 'L': 3}
 
 
-def fault(where, what):
-    faults.append(f'{where}: {what}')
+def crates(top):
+    lines = [line.split('#')[0] for line in (top / 'crates.txt').read_text().splitlines()]
+    return [line.split(':')[0].strip() for line in lines if line.strip()]
 
 
-def crates():
-    for line in (TOP / 'crates.txt').read_text().splitlines():
-        name = line.split('#')[0].split(':')[0].strip()
-        if name:
-            yield name
+def source(path):
+    """A file's text without its comments."""
+    mark = '--' if path.suffix == '.antt' else '//'
+    return re.sub(rf'(^|\s){mark}.*', r'\1', path.read_text(), flags=re.M)
+
+
+# ---- contracts
+
+def behind_brace(text, at):
+    """The place behind the brace that closes the one at `at`."""
+    depth = 0
+    for i in range(at, len(text)):
+        depth += {'{': 1, '}': -1}.get(text[i], 0)
+        if depth == 0:
+            return i + 1
+    return len(text)
 
 
 def signatures(text):
-    """(name, the clauses between the parameters and the body) of each public function."""
-    for m in re.finditer(r'\bpub (?:extern "C" )?fn (\w+)', text):
-        body = re.search(r'\n\s*\{\n', text[m.end():])
-        yield m.group(1), text[m.end():m.end() + body.start() + 1 if body else len(text)]
+    """(name, the words of its clauses) of each public function: clauses stand between the result and the body, each with its braces."""
+    for fn in re.finditer(r'\bpub\s+(?:extern\s+"C"\s+|[a-z]+\s+)?fn\s+(\w+)', text):
+        words, at = [], fn.end()
+        while (brace := text.find('{', at)) >= 0:
+            clause = re.search(r'\b(requires|ensures)(?:\s+\w+)?\s*$', text[at:brace])
+            if not clause:
+                break
+            words.append(clause[1])
+            at = behind_brace(text, brace)
+        yield fn[1], words
 
 
-def operations():
-    """`crate::function` of each operation that a caller may use with any input: what planner passes on, all of planner_c, and what the program prints."""
-    passed_on = re.findall(r'^pub use (\w+::[a-z]\w*);', (TOP / 'crates' / 'planner' / 'src' / 'lib.rt').read_text(), re.M)
-    exported = re.findall(r'fn (\w+)', (TOP / 'crates' / 'planner_c' / 'src' / 'lib.rt').read_text())
-    return set(passed_on) | {f'planner_c::{fn}' for fn in exported} | {'console::print'}
+def public(top, name):
+    """The public functions of a crate with their clauses."""
+    return [found for path in sorted((top / 'crates' / name / 'src').glob('**/*.rt')) for found in signatures(source(path))]
 
 
-def check_contracts():
-    open_to_callers = operations()
-    for name in crates():
-        for path in sorted((TOP / 'crates' / name / 'src').glob('**/*.rt')):
-            for fn, clauses in signatures(path.read_text()):
-                if path.name == 'main.rt':
-                    continue
-                if 'ensures' not in clauses:
-                    fault(f'{name}::{fn}', 'a pub function without an ensures')
-                if f'{name}::{fn}' in open_to_callers and 'requires' in clauses:
-                    fault(f'{name}::{fn}', 'a public operation with a requires')
+def check_contracts(top):
+    """Every public function has an `ensures`; the operations, which are those of OPERATIONS, have no `requires`."""
+    offered = set()
+    for use in re.findall(r'^\s*pub use ([^;]*);', source(top / 'crates' / 'planner' / 'src' / 'lib.rt'), re.M):
+        if not re.fullmatch(r'\w+::\w+', use):
+            yield f'planner: `pub use {use}` is not of the form crate::name'
+        elif use.split('::')[1][0].islower():
+            offered.add(use)
+    for name in ('planner', 'planner_c', 'console'):
+        offered |= {f'{name}::{fn}' for fn, _ in public(top, name)}
+    for name in sorted(offered ^ OPERATIONS):
+        yield f'{name}: ' + ('an operation that .ci/check.py does not name' if name in offered else 'named by .ci/check.py, but no operation')
+    seen = set()
+    for crate in crates(top):
+        for fn, words in public(top, crate):
+            name = f'{crate}::{fn}'
+            seen.add(name)
+            if 'ensures' not in words:
+                yield f'{name}: a public function without an ensures'
+            if name in OPERATIONS and 'requires' in words:
+                yield f'{name}: an operation with a requires'
+    for name in sorted(OPERATIONS - seen):
+        yield f'{name}: an operation whose signature was not found'
 
 
-def declared(name):
-    """What the crate declares: definitions, laws, records, fields, constructors, structs, functions."""
-    found = set()
-    top = TOP / 'crates' / name
-    for path in list(top.glob('specs/**/*.antt')) + list(top.glob('proofs/**/*.antt')):
-        text = path.read_text()
-        found |= set(re.findall(r'^\s*(?:(?:unfoldable|abbrev|pub) )*(\S+)(?: \{[^}]*\})? :', text, re.M))
-        found |= set(re.findall(r'^\s*(?:pub )?(?:record|data) (\S+)', text, re.M))
-    for path in top.glob('src/**/*.rt'):
-        found |= set(re.findall(r'\b(?:fn|struct|enum|const) (\w+)', path.read_text()))
-    found |= {'must-fail/' + p.stem for p in top.glob('must-fail/*.edit')}
+# ---- docs/TRACE.md
+
+def declarations(text):
+    """What a file of definitions or proofs declares: definitions, laws, records, fields, constructors."""
+    named = re.findall(r'^\s*(?:(?:unfoldable|abbrev|pub) )*(\S+)(?: \{[^}]*\})? :', text, re.M)
+    return {*named, *re.findall(r'^\s*(?:pub )?(?:record|data) (\S+)', text, re.M)}
+
+
+def declared(top, name):
+    """What a crate declares, and its wrong versions."""
+    crate = top / 'crates' / name
+    found = {'must-fail/' + path.stem for path in crate.glob('must-fail/*.edit')}
+    for path in [*crate.glob('specs/**/*.antt'), *crate.glob('proofs/**/*.antt')]:
+        found |= declarations(source(path))
+    for path in crate.glob('src/**/*.rt'):
+        found |= set(re.findall(r'\b(?:fn|struct|enum|const) (\w+)', source(path)))
     return found
 
 
-def check_trace():
-    trace = (TOP / 'docs' / 'TRACE.md').read_text()
-    known = {name: declared(name) for name in crates()}
+def check_trace(top):
+    """docs/TRACE.md names only what exists, and has an entry for each sentence of docs/PAPER-01.md and for nothing else."""
+    trace = (top / 'docs' / 'TRACE.md').read_text()
+    known = {name: declared(top, name) for name in crates(top)}
     for quoted in sorted(set(re.findall(r'`([^`\n]+)`', trace))):
+        crate, _, name = quoted.partition(' ')
         if re.fullmatch(r'[\w./-]+', quoted):
-            if not quoted.endswith('/') and not (TOP / quoted).exists():
-                fault('docs/TRACE.md', f'no file {quoted}')
-            continue
-        m = re.fullmatch(r'(\w+) (\S+)', quoted)
-        if not m or m.group(1) not in known:
-            fault('docs/TRACE.md', f'`{quoted}` is neither a file nor `crate name`')
-        elif m.group(2) not in known[m.group(1)]:
-            fault('docs/TRACE.md', f'the crate {m.group(1)} declares no {m.group(2)}')
+            if not quoted.endswith('/') and not (top / quoted).exists():
+                yield f'docs/TRACE.md: no file {quoted}'
+        elif crate not in known or ' ' in name:
+            yield f'docs/TRACE.md: `{quoted}` is neither a file nor `crate name`'
+        elif name not in known[crate]:
+            yield f'docs/TRACE.md: the crate {crate} declares no {name}'
     entries = dict(re.findall(r'^\| (\w+) \|(.*)\|$', trace, re.M))
-    for mark in re.findall(r'^- (\w+)\. ', (TOP / 'docs' / 'PAPER-01.md').read_text(), re.M):
+    entries.pop('mark', None)
+    marks = re.findall(r'^- (\w+)\. ', (top / 'docs' / 'PAPER-01.md').read_text(), re.M)
+    if not marks:
+        yield 'docs/PAPER-01.md: no sentence with a mark'
+    for mark in marks:
         if mark not in entries:
-            fault('docs/TRACE.md', f'sentence {mark} has no entry')
-        elif not any(cell.strip(' –') for cell in entries[mark].split('|')):
-            fault('docs/TRACE.md', f'the entry of sentence {mark} is empty')
+            yield f'docs/TRACE.md: sentence {mark} has no entry'
+        elif not entries[mark].strip(' –|'):
+            yield f'docs/TRACE.md: the entry of sentence {mark} is empty'
+    for mark in sorted(set(entries) - set(marks)):
+        yield f'docs/TRACE.md: the entry {mark} is of no sentence'
 
 
-VACUOUS = re.compile(r'that can be named from here|has no field|expected type `tie\.Need-[^`]*`, but this has type `tie\.Need-'
+# ---- must-fail edits
+
+# How an edit's comment ends: "`a` and `b` must break.", "law `a` must break.", "`a`, so `b`, must break."
+NAMES = r'`[^`\s]+`(?:(?:, | and )`[^`\s]+`)*'
+MUST_BREAK = re.compile(rf'({NAMES})(?:, so ({NAMES}),)? must break\.$')
+# An error that says nothing of a fact: the proof no longer fits the code, or something cannot be read.
+VACUOUS = re.compile(r'that can be named from here|has no field|expected type `tie\.Need-[^`]*`,? +but this has type `tie\.Need-'
                      r'|not in scope|is not declared|expected an expression|Parse|cannot be read')
-# what the log says where a function without a proof file of its own gives a wrong answer: there is no line with `: error`
-UNPROVED = re.compile(r'^note: .*it is not proved that what the function ensures holds when it returns')
+# An error that is there only because of another one.
+FOLLOWS = re.compile(r'was not admitted|, which is not proved')
 
 
-def check_edits():
-    for name in crates():
-        for edit in sorted((TOP / 'crates' / name / 'must-fail').glob('*.edit')):
-            log = TOP / 'target' / 'must-fail' / name / edit.stem / '.log'
-            if not log.exists():
-                fault(f'{name}/{edit.stem}', 'no log of this must-fail edit')
-                continue
-            lines = log.read_text(errors='replace').splitlines()
-            first = ([l for l in lines if ': error' in l] or [l for l in lines if UNPROVED.match(l)] or [''])[0]
-            if not first or VACUOUS.search(first):
-                fault(f'{name}/{edit.stem}', f'refused for a vacuous reason: {first[:200]}')
+def folder(fn):
+    """Where the proof of a function stands."""
+    return f'proofs/{fn.replace("::", "/")}/'
 
 
-def check_axioms():
-    for name in crates():
-        if not (TOP / 'crates' / name / 'src' / 'lib.rt').exists():
+def edits(top):
+    """Each must-fail edit: its crate, its file, and what its comment says must break, first of all and then because of that."""
+    for crate in crates(top):
+        for path in sorted((top / 'crates' / crate / 'must-fail').glob('*.edit')):
+            comment = ' '.join(line[1:].strip() for line in path.read_text().splitlines() if line.startswith('#'))
+            said = MUST_BREAK.search(comment)
+            first, then = said.groups(default='') if said else ('', '')
+            yield crate, path, re.findall(r'`([^`]+)`', first), re.findall(r'`([^`]+)`', then)
+
+
+def errors(name, text):
+    """The errors in an edit's log: the place in the crate, the law or definition, what is said. What is said of a function without a proof file counts as in its folder."""
+    for line in re.sub(r'\n +', ' ', text).splitlines():
+        if fn := re.match(r'fn \w+::(\S+): (?:no proof|not proved).*; (`search` does not close .*`returns.*|it calls .*)', line):
+            yield folder(fn[1]), '', fn[2]
+        elif error := re.match(rf'(?:.*?/must-fail/{name}/)?(\S+?):\d+:\d+: error\S*: (?:`([^`]+)`: )?(.*)', line):
+            yield error[1], error[2] or '', error[3]
+
+
+def check_edits(top):
+    """No edit was refused for a vacuous reason: what its comment says must break does break, and by a fact."""
+    for crate, path, first, then in edits(top):
+        name, log = f'{crate}/{path.stem}', top / 'target' / 'must-fail' / crate / path.stem / '.log'
+        if not first:
+            yield f'{name}: its comment does not say what must break'
+        if re.search(r'^file: proofs/', path.read_text(), re.M):
+            yield f'{name}: it changes a proof, which shows nothing'
+        if not log.exists():
+            yield f'{name}: no log of this must-fail edit'
             continue
-        log = TOP / 'target' / 'log' / f'{name}.out'
-        verdicts = [l for l in log.read_text().splitlines() if l.startswith('logic=')] if log.exists() else []
-        if not verdicts or not verdicts[-1].startswith('logic=proved'):
-            fault(name, 'no verdict in its log')
-        elif re.search(r'axioms=|foreign=|trusted=|holes=', verdicts[-1]):
-            fault(name, f'the verdict names an assumption: {verdicts[-1]}')
+        found = list(errors(name, log.read_text(errors='replace')))
+        unfit = [f'{place}: {said}' for place, _, said in found if not place.startswith('proofs/')]
+        if unfit:
+            yield f'{name}: refused before any proof: {unfit[0][:200]}'
+        elif found and VACUOUS.search(found[0][2]):
+            yield f'{name}: refused for a vacuous reason: {found[0][2][:200]}'
+        for thing in first + then:
+            own = [said for place, law, said in found if place.startswith(folder(thing)) or law == thing and place.count('/') == 1]
+            facts = [said for said in own if not FOLLOWS.search(said)]
+            if not own:
+                yield f'{name}: {thing} does not break'
+            elif thing in first and (not facts or VACUOUS.search(facts[0])):
+                yield f'{name}: {thing} breaks for a vacuous reason: {(facts or own)[0][:200]}'
 
 
-def check_example_a():
-    text = (TOP / 'crates' / 'examples' / 'specs' / 'Files.antt').read_text()
-    readme = (TOP / 'README.md').read_text()
+def check_shut_outs(top):
+    """Every library with functions has two or more wrong versions, and every operation is named by two or more."""
+    made = [crate for crate, *_ in edits(top)]
+    for crate in crates(top):
+        if made.count(crate) < 2 and any(re.search(r'\bfn ', source(path)) for path in (top / 'crates' / crate / 'src').glob('lib.rt')):
+            yield f'{crate}: a library with fewer than two wrong versions'
+    named = [f'{crate}::{thing}' for crate, _, first, then in edits(top) for thing in {*first, *then}]
+    for name in sorted(OPERATIONS):
+        if named.count(name) < 2:
+            yield f'{name}: an operation that fewer than two wrong versions name'
+
+
+# ---- theorems, examples, verdicts
+
+def check_theorems(top):
+    """The theorems that are promised are there, as they are promised, of the definitions in specs."""
+    for crate, name, says in THEOREMS:
+        texts = [source(path) for path in sorted((top / 'crates' / crate / 'proofs').glob('**/*.antt'))]
+        if not any(re.search(rf'^pub {re.escape(name)} : {re.escape(says)}$', text, re.M) for text in texts):
+            yield f'{crate}: no theorem `{name} : {says}`'
+        for word in says.split():
+            if any(word in declarations(text) for text in texts):
+                yield f'{crate}: {word}, of which the theorem {name} speaks, is declared in a proof'
+
+
+def check_table(top):
+    """The table of examples has its letters in order, each with its rows."""
+    text = source(top / 'crates' / 'examples' / 'specs' / 'Table.antt')
+    table = re.search(r'^table =\n((?:    .*\n)*?)    ∷ \[\]$', text, re.M)
+    letters = re.findall(r'^    (?:∷ )?at "(\w+)" ', table[1], re.M) if table else []
+    wanted = [letter for letter, rows in ROWS.items() for _ in range(rows)]
+    if letters != wanted:
+        yield f'examples: the rows of table are {" ".join(letters)}, and must be {" ".join(wanted)}'
+
+
+def check_example_a(top):
+    """Example A of the README is the file and the listing of the table of examples, byte for byte."""
+    text = source(top / 'crates' / 'examples' / 'specs' / 'Files.antt')
     for name in ('fileA', 'listingA'):
-        literal = re.search(rf'^{name} = bytes "(.*)"$', text, re.M).group(1)
-        if literal.replace('\\t', '\t').replace('\\n', '\n') not in readme:
-            fault('README.md', f'{name} of crates/examples/specs/Files.antt does not stand in it')
+        literal = re.search(rf'^{name} = bytes "(.+)"$', text, re.M)
+        if not literal or literal[1].replace('\\t', '\t').replace('\\n', '\n') not in (top / 'README.md').read_text():
+            yield f'README.md: {name} of crates/examples/specs/Files.antt does not stand in it'
 
 
-for check in (check_contracts, check_trace, check_edits, check_axioms, check_example_a):
-    check()
-for line in faults:
-    print(line)
-print(f'own checks: {len(faults)} faults')
-sys.exit(1 if faults else 0)
+def check_verdicts(top):
+    """Every library is proved, and its verdict names nothing that is assumed."""
+    for name in crates(top):
+        if (top / 'crates' / name / 'src' / 'lib.rt').exists():
+            log = top / 'target' / 'log' / f'{name}.out'
+            verdicts = re.findall(r'^logic=.*', log.read_text(), re.M) if log.exists() else []
+            if not verdicts or not verdicts[-1].startswith('logic=proved '):
+                yield f'{name}: no verdict in its log'
+                continue
+            words = {word.split('=')[0] for word in verdicts[-1].split()}
+            for word in sorted(words - {'logic', 'functions', 'sum', 'native', 'logic-built', 'libraries-built'}):
+                yield f'{name}: the verdict names an assumption, {word}'
+
+
+def check_tests(top):
+    """Every exported operation is in the C header and in the library that the Rust tests call; no file of tests is empty, and no test is left out."""
+    for place in ('include/planner.h', 'tests/src/library.rs'):
+        for fn in sorted(name.split('::')[1] for name in OPERATIONS if name.startswith('planner_c::')):
+            if not re.search(rf'\b{fn}\(', source(top / place)):
+                yield f'{place}: {fn} is not declared'
+    for path in sorted((top / 'tests' / 'tests').glob('*.rs')):
+        if '#[test]' not in source(path) or '#[ignore' in source(path):
+            yield f'tests/tests/{path.name}: no test, or one that is ignored'
+
+
+CHECKS = [check_contracts, check_trace, check_edits, check_shut_outs, check_theorems, check_table, check_example_a, check_verdicts, check_tests]
+
+if __name__ == '__main__':
+    top = Path(__file__).resolve().parent.parent
+    faults = [fault for check in CHECKS for fault in check(top)]
+    for fault in faults:
+        print(fault)
+    print(f'own checks: {len(faults)} faults')
+    sys.exit(1 if faults else 0)

@@ -65,17 +65,17 @@ same-shares (more {x = p} {y = s} {ys = ss} h hs) (more {y = u} {ys = us} k ks) 
     let bounds-behind : map (λ s. s .bound) ss ≡ map (λ s. s .bound) us = cc in
     ap₂ (λ (x : Share) (xs : List Share). x ∷ xs) (same-share p s u h k row bound) (same-shares hs ks rows-behind bounds-behind)
 
-module _ {ps : List FilePart} {text other : List ℕ} (p : Printed ps text) (q : Printed ps other) where
-  pub rows-settled : rowsOf (p .shares) ≡ rowsOf (q .shares)
-  rows-settled =
-      same-rows (p .kept) (q .kept)
-      (map-of-each (λ s. s .row) (p .greatest _ (printed-passes q) (q .kept) (q .least _ (printed-passes p))))
-      (map-of-each (λ s. s .row) (q .greatest _ (printed-passes p) (p .kept) (p .least _ (printed-passes q))))
+rows-settled : {ps : List FilePart} {text other : List ℕ} (p : Printed ps text) (q : Printed ps other) → rowsOf (p .shares) ≡ rowsOf (q .shares)
+rows-settled p q =
+    same-rows (p .kept) (q .kept)
+    (map-of-each (λ s. s .row) (p .greatest _ (printed-passes q) (q .kept) (q .least _ (printed-passes p))))
+    (map-of-each (λ s. s .row) (q .greatest _ (printed-passes p) (p .kept) (p .least _ (printed-passes q))))
 
-  pub text-settled : text ≡ other
-  text-settled =
-      let bounds = p .bounds ∙ ap boundsOf rows-settled ∙ sym (q .bounds) in
-      p .bytes ∙ ap listingOf (same-shares (p .choice) (q .choice) rows-settled bounds) ∙ sym (q .bytes)
+pub text-settled : (ps : List FilePart) (text other : List ℕ) → Printed ps text → Printed ps other → text ≡ other
+text-settled ps text other p q =
+    let rows = rows-settled p q in
+    let bounds = p .bounds ∙ ap boundsOf rows ∙ sym (q .bounds) in
+    p .bytes ∙ ap listingOf (same-shares (p .choice) (q .choice) rows bounds) ∙ sym (q .bytes)
 
 -- the first part without a budget is one
 first-settled : {ps : List FilePart} {j k : ℕ} → NoBudgetAt ps j → NoBudgetAt ps k → j ≤ k
@@ -96,10 +96,10 @@ answer-settled (none-passes m) (none-passes n) = ap refused (refusal-settled m n
 answer-settled (none-passes n) (fits p l) = absurd (none-to-plan n _ (printed-passes p))
 answer-settled (none-passes n) (too-long p l) = absurd (none-to-plan n _ (printed-passes p))
 answer-settled (fits p l) (none-passes n) = absurd (none-to-plan n _ (printed-passes p))
-answer-settled (fits p l) (fits q m) = ap answered (text-settled p q)
-answer-settled (fits p l) (too-long q m) = absurd (omega (arith, l, m, ap length (text-settled p q)))
+answer-settled (fits p l) (fits q m) = ap answered (text-settled _ _ _ p q)
+answer-settled (fits p l) (too-long q m) = absurd (omega (arith, l, m, ap length (text-settled _ _ _ p q)))
 answer-settled (too-long p l) (none-passes n) = absurd (none-to-plan n _ (printed-passes p))
-answer-settled (too-long p l) (fits q m) = absurd (omega (arith, l, m, ap length (text-settled p q)))
+answer-settled (too-long p l) (fits q m) = absurd (omega (arith, l, m, ap length (text-settled _ _ _ p q)))
 answer-settled (too-long p l) (too-long q m) = refl
 
 pub demand-3-settled : (Promise : List ℕ → List ℕ → Planned → List ℕ → Type 0) → Demand3 Promise →

@@ -1,0 +1,306 @@
+#!/usr/bin/env python3
+"""The gate's own checks can fail: a small tree on which no check has a fault, and for each check slips in that tree which it must report; then .ci/run with
+an rt that fails in every way."""
+import os
+import subprocess
+import sys
+import tempfile
+import unittest
+from contextlib import contextmanager
+from pathlib import Path
+
+sys.dont_write_bytecode = True
+import check
+
+HERE = Path(__file__).resolve().parent
+LEAST = '''// `ensures { .. }` in a comment is no clause.
+pub struct Frac {
+    pub num: u64,
+}
+
+#[inline]
+pub fn ceil_div(
+    t: u64,
+    period: u64,
+) -> u64
+    requires { ⌜ Positive {0} {1} period ⌝ }
+    ensures result { λ r. ⌜ r ≡ ceilDiv t period ⌝ }
+{
+    inner(t)
+}
+
+fn inner(t: u64) -> u64 {
+    t
+}
+
+impl Frac {
+    pub fn next(self) -> Frac
+        ensures { λ r. ⌜ r ≡ nextOf self ⌝ }
+    {
+        self
+    }
+}
+'''
+BARE = 'pub fn anything(a: u64) -> u64 {\n    a / 2\n}\n'
+HALF = '#[no_mangle]\npub extern "C" fn planner_half(a: u64) -> u64 {\n    a / 2\n}\n'
+FOLLOWS = 'was not admitted (it has holes or undetermined implicits, or was rejected), so this cannot be checked'
+DOWN_LOG = f'''@proofs/Round.antt:1:2: error: `ceil-least`: `omega`: the goal fails
+  at `t` = 1
+@proofs/Round.antt:9:2: error: `ceil-covers`: `ceil-least` {FOLLOWS}
+fn least::ceil_div: proved
+'''
+STEP_LOG = '''fn least::inner: no proof: expected `inner-spec` in @proofs/inner/Proof.antt; `search` does not close `returns`, `returns-2`
+fn least::ceil_div: not proved; it calls `least::inner`, which is not proved
+@proofs/Frac/next/Proof.antt:1:2: error: `returns`: `search`: no proof of `a`
+'''
+SHAPE = 'expected type `tie.Need-a`\n  but this has type `tie.Need-b`'
+TRACE = '''| mark | definition | theorem or contract | test |
+|---|---|---|---|
+| I1 | `least ceilDiv` | – | `least must-fail/down` |
+| F12 | – | `planning plan` | `docs/PAPER-01.md`, `must-fail/` |
+'''
+VERDICT = 'logic=proved functions=2 sum=0 native=nat,char,string logic-built=trusted libraries-built=trusted\n'
+
+
+def edit(breaks):
+    return f'# A `task` line has one answer: {breaks} must break.\nfile: src/lib.rt\nold: a\nnew: b\n'
+
+
+def log(name, lines):
+    return lines.replace('@', f'/a place/target/must-fail/{name}/')
+
+
+def right_tree():
+    """The files of a tree without a fault, by path."""
+    rows = [f'at "{letter}" (refuses [] {row} 1)\n' for letter, count in check.ROWS.items() for row in range(count)]
+    files = {
+        'crates/least/src/lib.rt': LEAST,
+        'crates/least/specs/Round.antt': 'pub ceilDiv : ℕ → ℕ\n',
+        'crates/least/must-fail/down.edit': edit('law `ceil-least`, so `ceil-covers`,'),
+        'target/must-fail/least/down/.log': log('least/down', DOWN_LOG),
+        'crates/least/must-fail/step.edit': edit('`Frac::next` and `inner`, so `ceil_div`,'),
+        'target/must-fail/least/step/.log': log('least/step', STEP_LOG),
+        'crates/planner/src/lib.rt': 'pub use least::Frac;\n',
+        'crates/examples/src/lib.rt': '// Nothing.\n',
+        'crates/examples/specs/Files.antt': 'fileA = bytes "part\\tcard\\t20\\nend\\n"\nlistingA = bytes "load\\tcard\\n"\n',
+        'crates/examples/specs/Table.antt': 'abbrev pub table : List Example\ntable =\n    ' + '    ∷ '.join(rows) + '    ∷ []\n\ninfixr 60 _and_\n',
+        'crates/plan/src/main.rt': 'fn main() {\n}\n',
+        'README.md': 'A file:\n\npart\tcard\t20\nend\n\nits plan:\n\nload\tcard\n',
+        'docs/PAPER-01.md': '- I1. Times are whole ticks.\n- F12. A name.\n',
+        'docs/TRACE.md': TRACE,
+        'include/planner.h': '',
+        'tests/src/library.rs': '',
+        'tests/tests/library.rs': '#[test]\nfn plans() {}\n',
+    }
+    for crate, name, says in check.THEOREMS:
+        path = f'crates/{crate}/proofs/Theorems.antt'
+        files[path] = files.get(path, '') + f'pub {name} : {says}\n{name} = refl\n'
+    for name in sorted(check.OPERATIONS):
+        crate, fn = name.split('::')
+        path = f'crates/{crate}/src/lib.rt'
+        head = '#[no_mangle]\npub extern "C" fn' if crate == 'planner_c' else 'pub fn'
+        files[path] = files.get(path, '') + f'{head} {fn}(a: u64) -> u64\n    ensures {{ λ r. ⌜ r ≡ a ⌝ }}\n{{\n    a\n}}\n'
+        for label in (f'{fn}_low', f'{fn}_high'):
+            files[f'crates/{crate}/must-fail/{label}.edit'] = edit(f'`{fn}`')
+            files[f'target/must-fail/{crate}/{label}/.log'] = log(f'{crate}/{label}', f'@proofs/{fn}/Proof.antt:1:2: error: `returns`: the two types differ\n')
+        if crate == 'planner_c':
+            files['include/planner.h'] += f'answer {fn}(const uint8_t *file);\n'
+            files['tests/src/library.rs'] += f'    fn {fn}(file: *const u8);\n'
+        elif crate != 'console':
+            files['crates/planner/src/lib.rt'] += f'pub use {name};\n'
+    names = sorted({path.split('/')[1] for path in files if path.startswith('crates/')})
+    files['crates.txt'] = '# all\n' + ''.join(f'{name}: least\n' for name in names)
+    for name in names:
+        files[f'target/log/{name}.out'] = 'library std\n' + (VERDICT if name != 'plan' else VERDICT.replace('sum', 'axioms=9 sum'))
+    return files
+
+
+# Each slip: the check that must report it, a part of what it says, the file, and what stands there in place of what (nothing in place of a whole file: the file is
+# removed; something in place of nothing: it stands at the end).
+LOG, DOWN, STEP = 'target/must-fail/planning/plan_low/.log', 'target/must-fail/least/down/.log', 'target/must-fail/least/step/.log'
+SLIPS = [
+    (check.check_contracts, 'least::anything: a public function without', 'crates/least/src/lib.rt', '', BARE),
+    (check.check_contracts, 'least::anything: a public function without', 'crates/least/src/lib.rt', '', 'pub fn anything(a: u64) -> u64 { a / 2 }\n'),
+    (check.check_contracts, 'least::anything: a public function without', 'crates/least/src/lib.rt', '#[inline]', BARE + '\n#[inline]'),
+    (check.check_contracts, 'least::anything: a public function without', 'crates/least/src/lib.rt', '', '#[inline]\npub fn anything(\n    a: u64,\n) -> u64 {\n    a / 2\n}\n'),
+    (check.check_contracts, 'least::ceil_div: a public function without', 'crates/least/src/lib.rt', '    ensures result {', '    // ensures result {'),
+    (check.check_contracts, 'least::next: a public function without', 'crates/least/src/lib.rt', '        ensures {', '        requires {'),
+    (check.check_contracts, 'planner_c::planner_half: a public function without', 'crates/planner_c/src/lib.rt', '', HALF),
+    (check.check_contracts, 'planner_c::planner_half: an operation that .ci/check.py does not name', 'crates/planner_c/src/lib.rt', '', HALF),
+    (check.check_contracts, 'planning::plan: an operation with a requires', 'crates/planning/src/lib.rt', '\n    ensures', '\n    requires { ⌜ a < 2 ⌝ }\n    ensures'),
+    (check.check_contracts, 'console::print: an operation with a requires', 'crates/console/src/lib.rt', '}\n{\n', '}\n    requires small { ⌜ a < 2 ⌝ }\n{\n'),
+    (check.check_contracts, 'console::print: an operation whose signature was not found', 'crates/console/src/lib.rt', 'fn print(', 'fn printed('),
+    (check.check_contracts, 'planning::plan: an operation whose signature was not found', 'crates/planning/src/lib.rt', 'pub fn plan(', 'fn plan('),
+    (check.check_contracts, 'planning::plan: named by .ci/check.py, but no operation', 'crates/planner/src/lib.rt', 'pub use planning::plan;\n', ''),
+    (check.check_contracts, 'planner: `pub use planning::{plan, half}`', 'crates/planner/src/lib.rt', 'planning::plan;', 'planning::{plan, half};'),
+    (check.check_contracts, 'least::ceil_div: an operation that .ci/check.py does not name', 'crates/planner/src/lib.rt', '', 'pub use least::ceil_div;\n'),
+    (check.check_trace, 'the crate least declares no floorDiv', 'docs/TRACE.md', 'ceilDiv', 'floorDiv'),
+    (check.check_trace, 'the crate least declares no ceilDiv', 'crates/least/specs/Round.antt', 'pub ceilDiv', '-- pub ceilDiv'),
+    (check.check_trace, 'the crate least declares no must-fail/down', 'crates/least/must-fail/down.edit', None, None),
+    (check.check_trace, 'no file docs/PAPER-02.md', 'docs/TRACE.md', 'PAPER-01', 'PAPER-02'),
+    (check.check_trace, 'neither a file nor', 'docs/TRACE.md', '`planning plan`', '`nowhere plan`'),
+    (check.check_trace, 'sentence F12 has no entry', 'docs/TRACE.md', '| F12 |', '| F13 |'),
+    (check.check_trace, 'the entry F13 is of no sentence', 'docs/TRACE.md', '| F12 |', '| F13 |'),
+    (check.check_trace, 'the entry of sentence I1 is empty', 'docs/TRACE.md', '`least ceilDiv` | – | `least must-fail/down`', '– | – | –'),
+    (check.check_trace, 'no sentence with a mark', 'docs/PAPER-01.md', '- I1. Times are whole ticks.\n- F12. A name.\n', 'Times.\n'),
+    (check.check_edits, 'planning/plan_low: no log', LOG, None, None),
+    (check.check_edits, 'planning/plan_low: its comment does not say', 'crates/planning/must-fail/plan_low.edit', 'must break', 'breaks'),
+    (check.check_edits, 'planning/plan_low: its comment does not say', 'crates/planning/must-fail/plan_low.edit', '`plan`', 'the plan'),
+    (check.check_edits, 'planning/plan_low: it changes a proof', 'crates/planning/must-fail/plan_low.edit', 'file: src/lib.rt', 'file: proofs/Plan.antt'),
+    (check.check_edits, 'planning/plan_low: print_plan does not break', 'crates/planning/must-fail/plan_low.edit', '`plan`', '`print_plan`'),
+    (check.check_edits, 'planning/plan_low: plan does not break', LOG, 'proofs/plan/', 'proofs/print_plan/'),
+    (check.check_edits, 'planning/plan_low: plan does not break', LOG, 'error', 'note'),
+    (check.check_edits, 'planning/plan_low: plan breaks for a vacuous reason', LOG, 'the two types differ', f'`law` {FOLLOWS}'),
+    (check.check_edits, 'planning/plan_low: plan breaks for a vacuous reason', LOG, 'the two types differ', 'module `Tie` has no `Need-a` that can be named from here'),
+    (check.check_edits, 'planning/plan_low: refused for a vacuous reason', LOG, 'the two types differ', 'record `Lts` has no field `args`'),
+    (check.check_edits, 'planning/plan_low: refused for a vacuous reason', LOG, 'the two types differ', SHAPE),
+    (check.check_edits, 'planning/plan_low: refused before any proof: specs/', LOG, 'proofs/plan/Proof', 'specs/Plan'),
+    (check.check_edits, 'planning/plan_low: refused before any proof: src/', LOG, '', log('planning/plan_low', '@src/lib.rt:1:2: error[mismatched-types]: expected `u64`\n')),
+    (check.check_edits, 'least/down: ceil-least does not break', DOWN, 'error: `ceil-least`', 'error: `ceil-most`'),
+    (check.check_edits, 'least/down: ceil-least does not break', DOWN, 'proofs/Round.antt:1', 'proofs/ceil_div/Proof.antt:1'),
+    (check.check_edits, 'least/down: ceil-least breaks for a vacuous reason', DOWN, '`omega`: the goal fails', f'`ceil-none` {FOLLOWS}'),
+    (check.check_edits, 'least/down: ceil-covers does not break', DOWN, 'error: `ceil-covers`', 'note: `ceil-covers`'),
+    (check.check_edits, 'least/step: Frac::next does not break', STEP, 'Frac/next', 'Frac/new'),
+    (check.check_edits, 'least/step: inner does not break', STEP, 'least::inner: no proof', 'least::outer: no proof'),
+    (check.check_edits, 'least/step: inner does not break', STEP, '`search` does not close `returns`, `returns-2`', 'it has a loop'),
+    (check.check_edits, 'least/step: ceil_div does not break', STEP, 'ceil_div: not proved; it calls `least::inner`, which is not proved', 'ceil_div: proved'),
+    (check.check_shut_outs, 'least: a library with fewer than two', 'crates/least/must-fail/down.edit', None, None),
+    (check.check_shut_outs, 'planning::plan: an operation that fewer than two', 'crates/planning/must-fail/plan_low.edit', None, None),
+    (check.check_shut_outs, 'console::print: an operation that fewer than two', 'crates/console/must-fail/print_low.edit', '`print`', '`write`'),
+    (check.check_theorems, 'no theorem `demand-3 : Demand3 PlanAnswered`', 'crates/planner/proofs/Theorems.antt', 'pub demand-3 : Demand3 PlanAnswered', 'pub demand-3 : Demand3 other'),
+    (check.check_theorems, 'no theorem `demand-2 : Demand2`', 'crates/planner/proofs/Theorems.antt', 'demand-2 : Demand2\n', 'demand-2 : Demand2 → Demand2\n'),
+    (check.check_theorems, 'no theorem `demand-1 : Demand1 PlanAnswered`', 'crates/planner/proofs/Theorems.antt', 'pub demand-1', '-- pub demand-1'),
+    (check.check_theorems, 'no theorem `examples : AllHold table`', 'crates/examples/proofs/Theorems.antt', 'AllHold table\n', 'AllHold short\n'),
+    (check.check_theorems, 'table, of which the theorem examples speaks', 'crates/examples/proofs/Theorems.antt', '', 'abbrev table : List Example\ntable = []\n'),
+    (check.check_table, 'the rows of table are A B', 'crates/examples/specs/Table.antt', '    ∷ at "K" (refuses [] 4 1)\n', ''),
+    (check.check_table, 'the rows of table are A B', 'crates/examples/specs/Table.antt', '    ∷ at "K" (refuses [] 4 1)\n', '    -- ∷ at "K" (refuses [] 4 1)\n'),
+    (check.check_table, 'the rows of table are', 'crates/examples/specs/Table.antt', 'at "D" (refuses [] 0 1)\n    ∷ at "E"', 'at "E" (refuses [] 0 1)\n    ∷ at "D"'),
+    (check.check_table, 'the rows of table are', 'crates/examples/specs/Table.antt', 'at "A"', 'at "M"'),
+    (check.check_table, 'the rows of table are', 'crates/examples/specs/Table.antt', 'table =\n', 'table = short\nlong =\n'),
+    (check.check_example_a, 'README.md: fileA', 'README.md', 'part\tcard\t20', 'part\tcard\t21'),
+    (check.check_example_a, 'README.md: listingA', 'crates/examples/specs/Files.antt', 'listingA = bytes', 'listing = bytes'),
+    (check.check_verdicts, 'planning: no verdict', 'target/log/planning.out', None, None),
+    (check.check_verdicts, 'planning: no verdict', 'target/log/planning.out', 'logic=proved', 'logic=not-proved'),
+    (check.check_verdicts, 'planning: the verdict names an assumption, axioms', 'target/log/planning.out', 'sum=0', 'axioms=1 sum=0'),
+    (check.check_verdicts, 'planning: the verdict names an assumption, cache', 'target/log/planning.out', 'sum=0', 'sum=0 cache=trusted'),
+    (check.check_tests, 'include/planner.h: planner_weigh is not declared', 'include/planner.h', 'planner_weigh(', 'planner_weight('),
+    (check.check_tests, 'tests/src/library.rs: planner_name is not declared', 'tests/src/library.rs', '    fn planner_name(', '    // fn planner_name('),
+    (check.check_tests, 'tests/tests/library.rs: no test', 'tests/tests/library.rs', '#[test]', '// #[test]'),
+    (check.check_tests, 'tests/tests/library.rs: no test', 'tests/tests/library.rs', '#[test]', '#[test]\n#[ignore]'),
+]
+
+
+class Checks(unittest.TestCase):
+    @classmethod
+    def setUpClass(cls):
+        folder = tempfile.TemporaryDirectory()
+        cls.addClassCleanup(folder.cleanup)
+        cls.top = Path(folder.name)
+        for path, text in {**right_tree(), '.ci/check.py': (HERE / 'check.py').read_text()}.items():
+            (cls.top / path).parent.mkdir(parents=True, exist_ok=True)
+            (cls.top / path).write_text(text)
+
+    @contextmanager
+    def slip(self, path, old, new):
+        """The tree with one slip."""
+        file = self.top / path
+        text = file.read_text()
+        if old is None:
+            file.unlink()
+        else:
+            self.assertTrue(old == '' or text.count(old) == 1, f'{old!r} stands {text.count(old)} times')
+            file.write_text(text.replace(old, new) if old else text + new)
+        try:
+            yield
+        finally:
+            file.write_text(text)
+
+    def script(self):
+        run = subprocess.run([sys.executable, self.top / '.ci' / 'check.py'], capture_output=True, text=True)
+        return run.returncode, run.stdout.splitlines()[-1]
+
+    def test_right_tree_has_no_fault(self):
+        for run in check.CHECKS:
+            self.assertEqual(list(run(self.top)), [], run.__name__)
+        self.assertEqual(self.script(), (0, 'own checks: 0 faults'))
+
+    def test_every_slip_is_reported(self):
+        for run, fault, path, old, new in SLIPS:
+            with self.subTest(check=run.__name__, fault=fault, path=path, old=old, new=new):
+                with self.slip(path, old, new):
+                    faults = list(run(self.top))
+                self.assertTrue(any(fault in said for said in faults), faults)
+
+    def test_a_fault_fails_the_script(self):
+        with self.slip(LOG, None, None):
+            self.assertEqual(self.script(), (1, 'own checks: 1 faults'))
+
+    def test_every_check_is_run_and_has_a_slip(self):
+        named = {name for name in dir(check) if name.startswith('check_')}
+        self.assertEqual(named, {run.__name__ for run in check.CHECKS})
+        self.assertEqual(named, {slip[0].__name__ for slip in SLIPS})
+
+
+# Stands in for rt and every other command of .ci/run: notes what it is asked, and does as it is told.
+FAKE = '''#!/bin/sh
+asked="${0##*/} $*"
+echo "$asked" >>"$ASKED"
+[ "$asked" != 'rt ci' ] || eval "$CI"
+[ "$asked" != "$FAILING" ]
+'''
+COMMANDS = [
+    'rt ci', 'rt fmt --check', 'python3 .ci/check_test.py', 'python3 .ci/check.py', 'rt staticlib planner_c',
+    'cargo test --release --offline --quiet --features library --manifest-path tests/Cargo.toml', 'run ',
+]
+
+
+class Gate(unittest.TestCase):
+    def gate(self, ci, failing='', without='', tee=''):
+        """.ci/run where `rt ci` does as told, one command fails, one is not there, and tee is another: status, last line, commands."""
+        with tempfile.TemporaryDirectory() as folder:
+            top = Path(folder)
+            for path in ('.ci/run', 'bin/rt', 'bin/python3', 'bin/cargo', 'tests/examples/run'):
+                (top / path).parent.mkdir(parents=True, exist_ok=True)
+                (top / path).write_text((HERE / 'run').read_text() if path == '.ci/run' else FAKE)
+                (top / path).chmod(0o755)
+            if without:
+                (top / without).unlink()
+            if tee:
+                (top / 'bin' / 'tee').write_text(tee)
+                (top / 'bin' / 'tee').chmod(0o755)
+            told = {**os.environ, 'PATH': f'{top}/bin:/usr/bin:/bin', 'ASKED': f'{top}/asked', 'CI': ci, 'FAILING': failing}
+            run = subprocess.run([top / '.ci' / 'run'], env=told, capture_output=True, text=True)
+            asked = (top / 'asked').read_text().splitlines() if (top / 'asked').exists() else []
+            return run.returncode, run.stdout.splitlines()[-1], asked
+
+    def test_all_passes(self):
+        self.assertEqual(self.gate('echo 3 passed, 0 failed'), (0, '9 passed, 0 failed', COMMANDS))
+
+    def test_rt_ci_fails(self):
+        for ci, last in [
+            ('echo 3 passed, 1 failed; exit 1', '3 passed, 1 failed'),
+            ('echo 3 passed, 1 failed', '3 passed, 1 failed'),
+            ('echo 3 passed, 0 failed; exit 1', '3 passed, 1 failed'),
+            ('echo 3 passed, 0 failed; echo more', '0 passed, 1 failed'),
+            ('echo rt: 3 passed, 0 failed', '0 passed, 1 failed'),
+            ('echo 0 passed, 0 failed', '0 passed, 1 failed'),
+            ('kill -9 $$', '0 passed, 1 failed'),
+            ('exit 0', '0 passed, 1 failed'),
+        ]:
+            with self.subTest(ci=ci):
+                self.assertEqual(self.gate(ci), (1, last, ['rt ci']))
+
+    def test_no_rt(self):
+        self.assertEqual(self.gate('', without='bin/rt'), (1, '0 passed, 1 failed', []))
+
+    def test_nothing_is_noted(self):
+        self.assertEqual(self.gate('echo 3 passed, 0 failed', tee='#!/bin/sh\ncat\n'), (1, '0 passed, 1 failed', ['rt ci']))
+
+    def test_another_command_fails(self):
+        for command in COMMANDS[1:]:
+            with self.subTest(command=command):
+                self.assertEqual(self.gate('echo 3 passed, 0 failed', failing=command), (1, '8 passed, 1 failed', COMMANDS))
+
+
+if __name__ == '__main__':
+    unittest.main()
