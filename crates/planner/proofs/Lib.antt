@@ -1,4 +1,8 @@
 pub mod Local
+pub mod Reversed
+pub mod LocalTest
+pub mod Weighing
+pub mod KeptList
 pub mod Demand3
 pub mod Exactly
 pub mod Short
