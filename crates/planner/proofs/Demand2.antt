@@ -88,7 +88,7 @@ unfolding whenDone firstNo
 only-12 v true j = ((λ e. absurd (answered-not-refused e)), λ h. absurd (false≢true (sym (h .1))))
 only-12 v false j = ((λ e. (cc e, refl)), λ h. ap (λ (n : ℕ). refused (BadHandSet n)) (sym (h .0)))
 
-number-iff : (k : ℕ) (parts : List FilePart) → (isPartNumber k parts ≡ true) ↔ ((1 ≤ k) × (k ≤ length parts))
+pub number-iff : (k : ℕ) (parts : List FilePart) → (isPartNumber k parts ≡ true) ↔ ((1 ≤ k) × (k ≤ length parts))
 number-iff k parts = (
   (λ e. let h = and-iff (leb 1 k) (leb k (length parts)) .0 e in (leb-true 1 k (h .0), leb-true k (length parts) (h .1))),
   (λ h. and-iff (leb 1 k) (leb k (length parts)) .1 (le-leb 1 k (h .0), le-leb k (length parts) (h .1))),
@@ -105,15 +105,15 @@ module _ (s : List ℕ) (k : ℕ) where
       go true e = let h = number-iff k (n .parts) .0 e in absurd (n .none (h .0) (h .1))
       go false e = e
 
-  candidates-read : (parts : List FilePart) → readFile s ≡ answered parts → candidatesOf s k ≡ asked k (keptPairs (nthOr noPart k parts)) (isPartNumber k parts) (not (isEmpty (keptPairs (nthOr noPart k parts))))
+  pub candidates-read : (parts : List FilePart) → readFile s ≡ answered parts → candidatesOf s k ≡ asked k (keptPairs (nthOr noPart k parts)) (isPartNumber k parts) (not (isEmpty (keptPairs (nthOr noPart k parts))))
   unfolding candidatesOf whenAnswered
   candidates-read parts e = rw e refl
 
-  candidates-unread : (r : Refusal) → readFile s ≡ refused r → candidatesOf s k ≡ refused r
+  pub candidates-unread : (r : Refusal) → readFile s ≡ refused r → candidatesOf s k ≡ refused r
   unfolding candidatesOf whenAnswered
   candidates-unread r e = rw e refl
 
-  name-read : (parts : List FilePart) → readFile s ≡ answered parts → nameOf s k ≡ whenDone (firstNo (ask (BadHandSet 0) (isPartNumber k parts) ∷ [])) (answered (nthOr noPart k parts .name))
+  pub name-read : (parts : List FilePart) → readFile s ≡ answered parts → nameOf s k ≡ whenDone (firstNo (ask (BadHandSet 0) (isPartNumber k parts) ∷ [])) (answered (nthOr noPart k parts .name))
   unfolding nameOf whenAnswered
   name-read parts e = rw e refl
 

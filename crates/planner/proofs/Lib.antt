@@ -3,8 +3,10 @@ pub mod Reversed
 pub mod LocalTest
 pub mod Weighing
 pub mod KeptList
+pub mod Names
 pub mod Demand3
 pub mod Exactly
 pub mod Short
 pub mod Demand2
+pub mod Numbers
 pub mod Demand1

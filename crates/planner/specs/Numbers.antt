@@ -1,13 +1,14 @@
--- Demand 2 as a statement, its half about numbers: what every number of an answer is, by the paper's sentence. Supply is `supplyOf`; holding times,
--- blocking and budgets are in LocalTest; what a plan prints is demand 3.
---   KeptIs p a       == a is the kept list of the part p: the kept pairs, in falling X, up to 121, and their count
---   EveryNumber      == the numbers of the five operations, where they are answered and where they are refused
+-- Demand 2 as a statement, its half about numbers: what every number of an answer is, by the paper's sentence. The holding times, blockings and budgets
+-- of the kept pairs are in LocalTest; what a plan prints is demand 3.
+--   KeptIs p a      == a has the kept pairs of the part p, in falling X, up to 121, and their count
+--   NameIs s k p n  == n is the stretch of the name of part k, which is p, on its `part` line
+--   EveryNumber     == the numbers of the five operations, answered and refused
 -- Assumes nothing.
 use Prim.Native.Nat.{ℕ, _≤_, _<_}
 use mathlib.Core.Path.{_≡_}
 use mathlib.Core.Logic.{_↔_}
 use mathlib.Core.List.{List, [], List·Memᴰ}
-use lib.ListN.{length}
+use lib.ListN.{length, replicate}
 use Rattle.least.specs.Lists.{nthOr, pad}
 use Rattle.least.specs.Fraction.{frac}
 use Rattle.refusal.specs.declared.Refusal.{Refusal}
@@ -22,7 +23,9 @@ use Rattle.candidates.specs.declared.Kept.{Kept}
 use Rattle.candidates.specs.Candidates.{pair}
 use Rattle.candidates.specs.Statement.{IsKept}
 use Rattle.load.specs.declared.Row.{Row}
-use Rattle.load.specs.Weigh.{weighOf}
+use Rattle.load.specs.declared.Rows.{Rows}
+use Rattle.load.specs.declared.Weighed.{Weighed}
+use Rattle.load.specs.Weigh.{weighOf, weighRows}
 use Rattle.plan_file.specs.Above.{FilePart}
 use Rattle.plan_file.specs.Entries.{noSpan}
 use Rattle.plan_file.specs.Numbers.{lockCount, tasksIn}
@@ -30,8 +33,8 @@ use Rattle.plan_file.specs.Stretches.{nameSpans}
 use Rattle.answers.specs.Answers.{planOf, planned, candidatesOf, candidateList, nameOf, nameBytes, supplyAnswer, supplied}
 use Rattle.answers.specs.Choice.{Budgeted}
 use Rattle.inquiries.specs.declared.NameStretch.{NameStretch}
-use Rattle.inquiries.specs.Stretch.{StretchIs}
-use Rattle.planner.specs.Weighing.{boundAt, Weighs}
+use Rattle.inquiries.specs.Stretch.{nameStretch}
+use Rattle.planner.specs.Weighing.{Weighs}
 use Rattle.planner.specs.Demand2.{PartOf, SupplyFits}
 
 pub record KeptIs (p : FilePart) (a : Kept) : Type 0 where
@@ -43,11 +46,34 @@ pub record KeptIs (p : FilePart) (a : Kept) : Type 0 where
   -- unused places are zero
   pub pairs : a .pairs ≡ pad 121 (pair 0 0) list
 
+pub record NameIs (s : List ℕ) (k : ℕ) (p : FilePart) (n : NameStretch) : Type 0 where
+  pub done : n .outcome ≡ Done
+  pub span : n .span ≡ nthOr noSpan k (nameSpans s)
+  pub bytes : bytesOf s (n .span) ≡ p .name
+
+-- a refused weighing has zeros everywhere else
+abbrev pub notWeighed : Refusal → Weighed
+notWeighed r = record { outcome = Refused r; bounds = replicate rowLimit (frac 0 0); load = frac 0 0; row = 0 }
+
 pub record EveryNumber : Type 0 where
+  -- the supply of (P,Q) in t ticks
   pub supply : (P Q t : ℕ) → SupplyFits P Q t → supplied (supplyAnswer P Q t) ≡ record { outcome = Done; ticks = supplyOf P Q t }
+  -- every row's bound and the load
   pub weigh : (rows : List Row) → weighOf rows .outcome ≡ Done → Weighs rows (weighOf rows)
-  -- candidates are answered exactly if some permitted setting of the part has a budget, and with its kept list
+  -- the kept pairs and their count, answered exactly if some permitted setting of the part has a budget
   pub candidates : (s : List ℕ) (k : ℕ) → (candidateList (candidatesOf s k) .outcome ≡ Done) ↔ ((p : FilePart) × PartOf s k p × (σ : Setting) × (Q : ℕ) × Budgeted p σ Q)
-  pub kept : (s : List ℕ) (k : ℕ) (p : FilePart) (σ : Setting) (Q : ℕ) → PartOf s k p → Budgeted p σ Q → KeptIs p (candidateList (candidatesOf s k) .kept)
-  -- a name is that of the part
-  pub name : (s : List ℕ) (k : ℕ) (p : FilePart) → PartOf s k p → nameOf s k ≡ answered (p .name)
+  pub kept : (s : List ℕ) (k : ℕ) (p : FilePart) → PartOf s k p → KeptIs p (candidateList (candidatesOf s k) .kept)
+  -- the name of part k, as that stretch of the file
+  pub name : (s : List ℕ) (k : ℕ) (p : FilePart) → PartOf s k p → nameBytes (nameOf s k) ≡ p .name
+  pub stretch : (s : List ℕ) (k : ℕ) (p : FilePart) → PartOf s k p → NameIs s k p (nameStretch s k)
+  -- a plan counts the bytes it wrote
+  pub plan : (s : List ℕ) (room : ℕ) (text : List ℕ) → planOf s room ≡ answered text → planned (planOf s room) ≡ record { outcome = Done; written = length text }
+  -- a refusal consists of its number and its place, with every other number of the answer zero
+  pub refused-supply : (P Q t : ℕ) (r : Refusal) → supplyAnswer P Q t ≡ refused r → supplied (supplyAnswer P Q t) ≡ record { outcome = Refused r; ticks = 0 }
+  pub refused-weigh : (rows : List Row) (r : Refusal) → weighOf rows .outcome ≡ Refused r → weighOf rows ≡ notWeighed r
+  pub refused-weigh-struct : (rows : Rows) (r : Refusal) → weighRows rows .outcome ≡ Refused r → weighRows rows ≡ notWeighed r
+  pub refused-candidates : (s : List ℕ) (k : ℕ) (r : Refusal) → candidatesOf s k ≡ refused r
+      → candidateList (candidatesOf s k) ≡ record { outcome = Refused r; kept = record { pairs = replicate 121 (pair 0 0); count = 0 } }
+  pub refused-name : (s : List ℕ) (k : ℕ) (r : Refusal) → nameOf s k ≡ refused r → nameBytes (nameOf s k) ≡ []
+  pub refused-stretch : (s : List ℕ) (k : ℕ) (r : Refusal) → nameOf s k ≡ refused r → nameStretch s k ≡ record { outcome = Refused r; span = record { start = 0; len = 0 } }
+  pub refused-plan : (s : List ℕ) (room : ℕ) (r : Refusal) → planOf s room ≡ refused r → planned (planOf s room) ≡ record { outcome = Refused r; written = 0 }
