@@ -36,7 +36,7 @@ use Rattle.answers.specs.Parts.{keptPairs, keptRows}
 use Rattle.answers.specs.Answers.{planRows, planText, planQuestions, planParts, planOf, isPartNumber, candidatesOf, nameOf, supplyAnswer}
 use Rattle.answers.proofs.PlanRows.{everyKept, keptChoices, text, refused-10, refused-11, planned-or-14, plan-parts}
 use Rattle.planning.proofs.Answering.{plan-unread}
-use Rattle.planner.specs.Demand2.{RefusedBehind, PartOf, NotAPart, NoBudgeted, SupplyFits, Demand2}
+use Rattle.planner.specs.Demand2.{RefusedBehind, PartOf, NotAPart, WithoutBudget, SupplyFits, Demand2}
 use Rattle.planner.proofs.Weighing.{weighed-outcome, not-iff, wrong-count-iff, bad-row-iff, no-time-iff}
 use Rattle.planner.proofs.KeptList.{no-budget-iff}
 
@@ -121,10 +121,10 @@ module _ (s : List ℕ) (k : ℕ) where
   unfolding nameOf whenAnswered
   name-unread r e = rw e refl
 
-  pub no-budget-10 : (j : ℕ) → (candidatesOf s k ≡ refused (NoBudget j)) ↔ ((j ≡ k) × (p : FilePart) × PartOf s k p × NoBudgeted p)
+  pub no-budget-10 : (j : ℕ) → (candidatesOf s k ≡ refused (NoBudget j)) ↔ ((j ≡ k) × (p : FilePart) × PartOf s k p × WithoutBudget p)
   no-budget-10 j = (λ h. to (readFile s) refl h, from)
     where
-      to : (x : Answer (List FilePart)) → readFile s ≡ x → candidatesOf s k ≡ refused (NoBudget j) → (j ≡ k) × (p : FilePart) × PartOf s k p × NoBudgeted p
+      to : (x : Answer (List FilePart)) → readFile s ≡ x → candidatesOf s k ≡ refused (NoBudget j) → (j ≡ k) × (p : FilePart) × PartOf s k p × WithoutBudget p
       to (answered parts) e h =
           let p = nthOr noPart k parts in
           let a = asked-10 k (keptPairs p) (isPartNumber k parts) (not (isEmpty (keptPairs p))) j .0 (sym (candidates-read parts e) ∙ h) in
@@ -132,11 +132,11 @@ module _ (s : List ℕ) (k : ℕ) where
           (a .0, p, record { parts = parts; readable = read-answered-iff s parts .0 e; from = n .0; to = n .1; is = refl }, no-budget-iff p .0 (a .2))
       to (refused r) e h = absurd (unread s r (NoBudget j) e (sym (candidates-unread r e) ∙ h) (omega arith))
 
-      from : (j ≡ k) × (p : FilePart) × PartOf s k p × NoBudgeted p → candidatesOf s k ≡ refused (NoBudget j)
+      from : (j ≡ k) × (p : FilePart) × PartOf s k p × WithoutBudget p → candidatesOf s k ≡ refused (NoBudget j)
       from (i, p, d, n) =
           let q = nthOr noPart k (d .parts) in
           candidates-read (d .parts) (read-answered-iff s (d .parts) .1 (d .readable))
-          ∙ asked-10 k (keptPairs q) _ _ j .1 (i, number-iff k (d .parts) .1 (d .from, d .to), no-budget-iff q .1 (subst NoBudgeted (sym (d .is)) n))
+          ∙ asked-10 k (keptPairs q) _ _ j .1 (i, number-iff k (d .parts) .1 (d .from, d .to), no-budget-iff q .1 (subst WithoutBudget (sym (d .is)) n))
 
   not-a-part-12 : (j : ℕ) → (candidatesOf s k ≡ refused (BadHandSet j)) ↔ ((j ≡ 0) × NotAPart s k)
   not-a-part-12 j = (λ h. to (readFile s) refl h, from)

@@ -3,11 +3,11 @@
 use Prim.Native.Nat.{ℕ, zero, suc, _≤_, _<_}
 use native.Mathlib.Omega.{arith}
 use mathlib.Core.Path.{_≡_, refl, sym, ap, _∙_, subst}
-use mathlib.Core.Bool.{Bool, true, false, not, false≢true}
+use mathlib.Core.Bool.{true, false, not, false≢true}
 use mathlib.Core.Logic.{_↔_, ⊎-elim}
-use mathlib.Core.List.{List, [], _∷_, List·Memᴰ, List·Memᴰ·head, List·Memᴰ·tail}
+use mathlib.Core.List.{List, [], _∷_, List·Memᴰ, List·Memᴰ·head}
 use borrow.Author.Tests.{le-leb}
-use lib.ListN.{length, length-map, getD}
+use lib.ListN.{length, length-map}
 use Rattle.least.specs.Lists.{isEmpty, nthOr, pad}
 use Rattle.least.proofs.Greatest.{greatest-reached}
 use Rattle.least.proofs.Lists.{nth-get, nth-member}
@@ -19,8 +19,7 @@ use Rattle.task_set.specs.Blocking.{Setting}
 use Rattle.budget.proofs.Passing.{budget-iff}
 use Rattle.candidates.specs.declared.Pair.{Pair}
 use Rattle.candidates.specs.declared.Kept.{Kept}
-use Rattle.candidates.specs.Candidates.{pair, keptList, keptAnswer}
-use Rattle.candidates.specs.Statement.{Permitted}
+use Rattle.candidates.specs.Candidates.{pair, keptAnswer}
 use Rattle.candidates.proofs.Candidates.{kept-iff, kept-falls, kept-none}
 use Rattle.candidates.proofs.Count.{Used, kept-121}
 use Rattle.candidates.proofs.Walk.{Above, falling-pairwise}
@@ -30,7 +29,7 @@ use Rattle.plan_file.proofs.Fine.{FineFilePart}
 use Rattle.plan_file.proofs.FineTasks.{each-lock-used}
 use Rattle.answers.specs.Parts.{keptPairs}
 use Rattle.answers.specs.Choice.{Budgeted}
-use Rattle.planner.specs.Demand2.{NoBudgeted}
+use Rattle.planner.specs.Demand2.{WithoutBudget}
 use Rattle.planner.specs.Numbers.{KeptIs}
 
 -- a relation between each element and each after it, by their numbers
@@ -97,7 +96,7 @@ module _ (p : FilePart) where
   none-empty [] e = refl
   none-empty (c ∷ cs) e = absurd (false≢true (sym e))
 
-  pub no-budget-iff : (not (isEmpty (keptPairs p)) ≡ false) ↔ NoBudgeted p
+  pub no-budget-iff : (not (isEmpty (keptPairs p)) ≡ false) ↔ WithoutBudget p
   unfolding keptPairs isEmpty
   no-budget-iff =
       let iff = kept-none (p .period) (tasksIn p) (lockCount p) in

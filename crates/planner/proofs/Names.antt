@@ -5,16 +5,14 @@ use native.Mathlib.Omega.{arith}
 use mathlib.Core.Path.{_≡_, refl, sym, ap, ap₂, _∙_}
 use mathlib.Core.Bool.{Bool, true, false, cond}
 use mathlib.Core.List.{List, [], _∷_, _++_, map, append-nil, append-assoc, map-append}
-use lib.ListN.{length, take, drop, length-append}
+use lib.ListN.{length, length-append}
 use lib.Seq.{take-append-seam, drop-append-add}
 use Rattle.least.specs.Lists.{joined, nthOr}
 use Rattle.least.proofs.Last.{map-on-last}
 use Rattle.least.proofs.Lists.{and-iff, nth-of-map}
 use Rattle.text.specs.Bytes.{bytes, same, Line, linesOf, fieldsOf, lineOf}
 use Rattle.text.proofs.Bytes.{lineBytes, lines-join, fields-join, same-true}
-use Rattle.refusal.specs.Questions.Answer.{answered}
 use Rattle.refusal.specs.FirstNo.{allYes}
-use Rattle.scan.specs.declared.Span.{Span}
 use Rattle.scan.specs.Line.{lineIsGood}
 use Rattle.scan.specs.Scan.{bytesOf}
 use Rattle.records.specs.Records.{Record, recordOf, recordIn}
@@ -55,7 +53,7 @@ part-line : (body name P : List ℕ) → recordOf (fieldsOf body) ≡ part name 
 unfolding lineOf
 part-line body name P e = sym (fields-join body) ∙ ap lineOf (part-fields (fieldsOf body) name P e)
 
--- a line behind the bytes `front`
+-- a line after the bytes `front`
 module _ (s front : List ℕ) (l : Line) (rest : List ℕ) (is : s ≡ front ++ ((l .body ++ (10 ∷ [])) ++ rest)) where
   name-there : (name P : List ℕ) → recordIn l ≡ part name P → bytesOf s (nameSpan (length front) name) ≡ name
   unfolding bytesOf bytes

@@ -5,8 +5,6 @@ use mathlib.Core.Path.{_≡_, refl, sym, ap, _∙_, subst}
 use mathlib.Core.Bool.{Bool, true, false, not}
 use mathlib.Core.Logic.{_↔_}
 use mathlib.Core.List.{List, [], _∷_}
-use borrow.Author.Tests.{le-leb}
-use lib.ListN.{length}
 use Rattle.least.specs.Lists.{isEmpty, nthOr}
 use Rattle.least.specs.Fraction.{frac}
 use Rattle.least.proofs.Lists.{nth-member}
@@ -16,7 +14,7 @@ use Rattle.refusal.specs.declared.Refusal.the-variants.{NoBudget, BadHandSet}
 use Rattle.refusal.specs.declared.Outcome.{Outcome}
 use Rattle.refusal.specs.declared.Outcome.the-variants.{Done, Refused}
 use Rattle.refusal.specs.Limits.{rowLimit}
-use Rattle.refusal.specs.Questions.{ask, Answer, firstNo, whenAnswered, whenDone}
+use Rattle.refusal.specs.Questions.{ask, Answer, firstNo, whenDone}
 use Rattle.refusal.specs.Questions.Answer.{answered, refused}
 use Rattle.refusal.proofs.Answers.{done-not-refused}
 use Rattle.supply.specs.Supply.{supplyOf}
@@ -24,24 +22,19 @@ use Rattle.task_set.specs.Blocking.{Setting}
 use Rattle.candidates.specs.declared.Pair.{Pair}
 use Rattle.candidates.specs.Candidates.{pair, keptAnswer}
 use Rattle.load.specs.declared.Row.{Row}
-use Rattle.load.specs.declared.Rows.{Rows}
-use Rattle.load.specs.declared.Weighed.{Weighed}
 use Rattle.load.specs.Weigh.{weighQuestions, weighed, weighOf, rowsOf, structQuestions, weighRows}
 use Rattle.plan_file.specs.Above.{FilePart, noPart}
-use Rattle.plan_file.specs.Entries.{noSpan}
 use Rattle.plan_file.specs.Reading.{readFile}
-use Rattle.plan_file.specs.Stretches.{nameSpans}
 use Rattle.plan_file.proofs.Reading.{read-answered-iff}
 use Rattle.plan_file.proofs.Fine.{FineFilePart, read-fine}
-use Rattle.scan.specs.Scan.{bytesOf}
 use Rattle.answers.specs.Parts.{keptPairs}
-use Rattle.answers.specs.Answers.{planOf, planned, isPartNumber, candidatesOf, candidateList, nameOf, nameBytes, supplyAnswer, supplied}
+use Rattle.answers.specs.Answers.{planned, isPartNumber, candidatesOf, candidateList, nameOf, nameBytes, supplyAnswer, supplied}
 use Rattle.answers.specs.Choice.{Budgeted}
 use Rattle.inquiries.specs.Stretch.{noName, stretched, nameStretch}
 use Rattle.planner.specs.Demand2.{PartOf, SupplyFits}
 use Rattle.planner.specs.Numbers.{KeptIs, NameIs, notWeighed, EveryNumber}
 use Rattle.planner.proofs.Local.{candidates-kept}
-use Rattle.planner.proofs.Weighing.{weighed-outcome, not-iff, weighOf-weighs}
+use Rattle.planner.proofs.Weighing.{weighed-outcome, weighOf-is}
 use Rattle.planner.proofs.KeptList.{kept-is, no-budget-iff, some-budget}
 use Rattle.planner.proofs.Names.{name-stretch}
 use Rattle.planner.proofs.Demand2.{number-iff, candidates-read, candidates-unread, name-read, supply-fits-iff}
@@ -120,7 +113,7 @@ pub every-number : EveryNumber
 unfolding weighOf weighRows planned supplied candidateList keptAnswer nameBytes nameStretch stretched noName
 every-number = record {
   supply = supply-is;
-  weigh = weighOf-weighs;
+  weigh = weighOf-is;
   candidates = candidates-done;
   kept = kept-of-part;
   name = name-bytes;

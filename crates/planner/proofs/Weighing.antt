@@ -2,7 +2,7 @@
 -- Assumes nothing.
 use Prim.Native.Nat.{ℕ, zero, suc, _-_, _≤_, _<_}
 use native.Mathlib.Omega.{arith}
-use native.Mathlib.Decide.{decLe, decLt}
+use native.Mathlib.Decide.{decLe}
 use mathlib.Core.Path.{_≡_, refl, sym, ap, _∙_, subst}
 use mathlib.Core.Bool.{Bool, true, false, not, _&&_, false≢true}
 use mathlib.Core.Logic.{_↔_}
@@ -17,7 +17,7 @@ use Rattle.least.specs.Fraction.{frac, _⊑_, _⊏_}
 use Rattle.least.proofs.Along.{along-at}
 use Rattle.least.proofs.First.{first-is, first-every, every-missed}
 use Rattle.least.proofs.Fraction.{not-⊏}
-use Rattle.least.proofs.Lists.{and-iff, every-member, every-all, nth-get, nth-member, FirstAt, first-at}
+use Rattle.least.proofs.Lists.{and-iff, every-member, every-all, nth-get, nth-member, first-at}
 use Rattle.least.proofs.Members.{getD-any}
 use Rattle.least.proofs.Pad.{length-pad, getD-pad-fits}
 use Rattle.refusal.specs.declared.Outcome.{Outcome}
@@ -28,11 +28,11 @@ use Rattle.refusal.specs.Questions.{ask, firstNo}
 use Rattle.refusal.proofs.Answers.{done-not-refused}
 use Rattle.load.specs.declared.Row.{Row}
 use Rattle.load.specs.declared.Weighed.{Weighed}
-use Rattle.load.specs.Load.{row, loadAt, boundOf, boundsOf, loadOf, loadRow}
+use Rattle.load.specs.Load.{row, loadAt, boundOf, boundsOf, loadRow}
 use Rattle.load.specs.Weigh.{rowInRange, hasTime, weighQuestions, weighed, weighOf}
 use Rattle.load.proofs.InRange.{fits-in-range, in-range-fits}
-use Rattle.load.proofs.Load.{Bound, bound-paper, rowPasses-paper, bound-finite, boundsOf-length, load-greatest, LoadRow, loadRow-first}
-use Rattle.planner.specs.Weighing.{rowAt, L, TimeOf, RowFits, CountFits, BadRowAt, NoTimeAt, BoundIs, boundAt, Weighs}
+use Rattle.load.proofs.Load.{bound-paper, rowPasses-paper, bound-finite, boundsOf-length, load-greatest, loadRow-first}
+use Rattle.planner.specs.Weighing.{rowAt, L, TimeOf, RowFits, CountFits, BadRowAt, NoTimeAt, BoundIs, boundAt, WeighedIs}
 use Rattle.planner.proofs.Reversed.{loadAt-reverse}
 
 -- elements by number, from 1
@@ -257,7 +257,7 @@ module _ (rows : List Row) where
     same-nth : (i : ℕ) → 1 ≤ i → i ≤ length rows → nthOr (frac 0 1) i (boundsOf rows) ≡ nthOr (frac 0 0) i (boundsOf rows)
     same-nth i a b = nth-any (frac 0 0) (frac 0 1) (boundsOf rows) i a (omega (arith, boundsOf-length rows))
 
-    weighed-is : Weighs rows (weighed Done rows)
+    weighed-is : WeighedIs rows (weighed Done rows)
     unfolding weighed
     weighed-is =
         let r = loadRow-first rows (fits .some) in
@@ -273,9 +273,9 @@ module _ (rows : List Row) where
           first = λ i a b. rw (padded i, ← same-nth i a (omega (arith, r .within))) (r .before i a b);
         }
 
-  pub weighOf-weighs : weighOf rows .outcome ≡ Done → Weighs rows (weighOf rows)
+  pub weighOf-is : weighOf rows .outcome ≡ Done → WeighedIs rows (weighOf rows)
   unfolding weighOf
-  weighOf-weighs e =
+  weighOf-is e =
       let h = asked-done count (every rowInRange rows) (every hasTime (boundsOf rows)) _ _ (sym asked-weigh ∙ e) in
       rw (sym (weighed-outcome (firstNo (weighQuestions rows)) rows) ∙ e) (weighed-is (count-iff .0 (h .0)) (h .2))
 
@@ -288,7 +288,7 @@ bound-once {rows} {i} {b} {c} p q =
     no-later : {b c : Frac} → BoundIs rows i b → BoundIs rows i c → b .den ≤ c .den
     no-later {b} {c} p q = p .smallest (c .den) (q .time) (subst (λ (n : ℕ). frac n (c .den) ⊑ b) (q .value) (subst (λ (n : ℕ). c ⊑ frac n (b .den)) (sym (p .value)) (q .least (b .den) (p .time))))
 
-module _ (rows : List Row) (w v : Weighed) (p : Weighs rows w) (q : Weighs rows v) where
+module _ (rows : List Row) (w v : Weighed) (p : WeighedIs rows w) (q : WeighedIs rows v) where
   same-bound : (i : ℕ) → 1 ≤ i → boundAt w i ≡ boundAt v i
   same-bound i a = go (decLe i (length rows))
     where
@@ -299,7 +299,7 @@ module _ (rows : List Row) (w v : Weighed) (p : Weighs rows w) (q : Weighs rows 
   same-bounds : w .bounds ≡ v .bounds
   same-bounds = ext-getD (frac 0 0) (w .bounds) (v .bounds) (p .places ∙ sym (q .places)) (λ k h. sym (nth-get _ k (w .bounds)) ∙ same-bound (suc k) (omega arith) ∙ nth-get _ k (v .bounds))
 
-module _ (rows : List Row) (w v : Weighed) (p : Weighs rows w) (q : Weighs rows v) where
+module _ (rows : List Row) (w v : Weighed) (p : WeighedIs rows w) (q : WeighedIs rows v) where
   no-earlier : v .row ≤ w .row
   no-earlier = go (decLe (v .row) (w .row))
     where
@@ -310,8 +310,8 @@ module _ (rows : List Row) (w v : Weighed) (p : Weighs rows w) (q : Weighs rows 
           let no-smaller : v .load ⊑ w .load = rw (← q .reached, ← same-bound rows w v p q (v .row) (q .row-from)) (p .greatest (v .row) (q .row-from) (q .row-to)) in
           absurd (not-⊏ smaller no-smaller)
 
-pub weighs-settled : (rows : List Row) (w v : Weighed) → Weighs rows w → Weighs rows v → w ≡ v
-weighs-settled rows w v p q =
+pub weighed-settled : (rows : List Row) (w v : Weighed) → WeighedIs rows w → WeighedIs rows v → w ≡ v
+weighed-settled rows w v p q =
     let r : w .row ≡ v .row = omega (arith, no-earlier rows w v p q, no-earlier rows v w q p) in
     let l : w .load ≡ v .load = sym (p .reached) ∙ ap (boundAt w) r ∙ same-bound rows w v p q (v .row) (q .row-from) ∙ q .reached in
     λ i. record { outcome = (p .done ∙ sym (q .done)) i; bounds = same-bounds rows w v p q i; load = l i; row = r i }

@@ -1,9 +1,9 @@
 -- Demand 2 as a statement, its half about refusals: each refusal comes if its question has the answer no and those before it have yes, and in no other
--- case. The half about numbers is in Numbers.
+-- case. The half about numbers is `EveryNumber` in Numbers and `LocalTest`.
 --   RefusedBehind s questions r == the file s is refused with r by questions 1 to 9, or it is readable and r comes from the questions of its parts
 --   PartOf s k p     == the file s is readable, and p is its part k
 --   NotAPart s k     == the file s is readable, and k is not the number of a part
---   NoBudgeted p     == no permitted setting of the part has a budget
+--   WithoutBudget p  == no permitted setting of the part has a budget
 --   SupplyFits P Q t == 1 ≤ Q ≤ P ≤ 65,535 and t ≤ 65,535
 -- Assumes nothing.
 use Prim.Native.Nat.{ℕ, _≤_, _<_}
@@ -45,8 +45,8 @@ pub record NotAPart (s : List ℕ) (k : ℕ) : Type 0 where
   pub readable : AnsweredBy s parts
   pub none : 1 ≤ k → k ≤ length parts → ⊥
 
-abbrev pub NoBudgeted : FilePart → Type 0
-NoBudgeted p = (σ : Setting) (Q : ℕ) → Budgeted p σ Q → ⊥
+abbrev pub WithoutBudget : FilePart → Type 0
+WithoutBudget p = (σ : Setting) (Q : ℕ) → Budgeted p σ Q → ⊥
 
 pub record SupplyFits (P Q t : ℕ) : Type 0 where
   pub budget-some : 1 ≤ Q
@@ -64,7 +64,7 @@ pub record Demand2 : Type 0 where
   pub weigh-struct : (rows : Rows) (r : Refusal) → (weighRows rows .outcome ≡ Refused r) ↔ FirstNo (structQuestions rows) r
   pub supply : (P Q t : ℕ) (r : Refusal) → (supplyAnswer P Q t ≡ refused r) ↔ FirstNo (supplyQuestions P Q t) r
   -- 10 of candidates, for that part alone (its number); of a plan, see `Demand3`
-  pub candidates-10 : (s : List ℕ) (k j : ℕ) → (candidatesOf s k ≡ refused (NoBudget j)) ↔ ((j ≡ k) × (p : FilePart) × PartOf s k p × NoBudgeted p)
+  pub candidates-10 : (s : List ℕ) (k j : ℕ) → (candidatesOf s k ≡ refused (NoBudget j)) ↔ ((j ≡ k) × (p : FilePart) × PartOf s k p × WithoutBudget p)
   -- 12: is the part number that of a part in the file?
   pub candidates-12 : (s : List ℕ) (k j : ℕ) → (candidatesOf s k ≡ refused (BadHandSet j)) ↔ ((j ≡ 0) × NotAPart s k)
   pub name-12 : (s : List ℕ) (k j : ℕ) → (nameOf s k ≡ refused (BadHandSet j)) ↔ ((j ≡ 0) × NotAPart s k)

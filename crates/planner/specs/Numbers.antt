@@ -34,7 +34,7 @@ use Rattle.answers.specs.Answers.{planOf, planned, candidatesOf, candidateList,
 use Rattle.answers.specs.Choice.{Budgeted}
 use Rattle.inquiries.specs.declared.NameStretch.{NameStretch}
 use Rattle.inquiries.specs.Stretch.{nameStretch}
-use Rattle.planner.specs.Weighing.{Weighs}
+use Rattle.planner.specs.Weighing.{WeighedIs}
 use Rattle.planner.specs.Demand2.{PartOf, SupplyFits}
 
 pub record KeptIs (p : FilePart) (a : Kept) : Type 0 where
@@ -59,7 +59,7 @@ pub record EveryNumber : Type 0 where
   -- the supply of (P,Q) in t ticks
   pub supply : (P Q t : ℕ) → SupplyFits P Q t → supplied (supplyAnswer P Q t) ≡ record { outcome = Done; ticks = supplyOf P Q t }
   -- every row's bound and the load
-  pub weigh : (rows : List Row) → weighOf rows .outcome ≡ Done → Weighs rows (weighOf rows)
+  pub weigh : (rows : List Row) → weighOf rows .outcome ≡ Done → WeighedIs rows (weighOf rows)
   -- the kept pairs and their count, answered exactly if some permitted setting of the part has a budget
   pub candidates : (s : List ℕ) (k : ℕ) → (candidateList (candidatesOf s k) .outcome ≡ Done) ↔ ((p : FilePart) × PartOf s k p × (σ : Setting) × (Q : ℕ) × Budgeted p σ Q)
   pub kept : (s : List ℕ) (k : ℕ) (p : FilePart) → PartOf s k p → KeptIs p (candidateList (candidatesOf s k) .kept)

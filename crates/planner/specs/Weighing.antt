@@ -6,7 +6,7 @@
 --   BadRowAt rows j  == their count fits, and row j is the first that does not fit
 --   NoTimeAt rows j  == their count and every row fit, and row j is the first without a time t
 --   BoundIs rows i b == b is the bound of row i: the least L(t)/t, with the smallest such t
---   Weighs rows w    == w has every row's bound and the load
+--   WeighedIs rows w == w has every row's bound and the load
 -- Assumes nothing.
 use Prim.Native.Nat.{ℕ, _-_, _≤_, _<_}
 use mathlib.Core.Path.{_≡_}
@@ -68,7 +68,7 @@ pub record BoundIs (rows : List Row) (i : ℕ) (b : Frac) : Type 0 where
 abbrev pub boundAt : Weighed → ℕ → Frac
 boundAt w i = nthOr (frac 0 0) i (w .bounds)
 
-pub record Weighs (rows : List Row) (w : Weighed) : Type 0 where
+pub record WeighedIs (rows : List Row) (w : Weighed) : Type 0 where
   pub done : w .outcome ≡ Done
   pub bounds : (i : ℕ) → 1 ≤ i → i ≤ length rows → BoundIs rows i (boundAt w i)
   -- unused places are zero
