@@ -35,7 +35,6 @@ use Rattle.plan_file.proofs.Refusals.{read-refused-to-nine}
 use Rattle.answers.specs.Parts.{keptPairs, keptRows}
 use Rattle.answers.specs.Answers.{planRows, planText, planQuestions, planParts, planOf, isPartNumber, candidatesOf, nameOf, supplyAnswer}
 use Rattle.answers.proofs.PlanRows.{everyKept, keptChoices, text, refused-10, refused-11, planned-or-14, plan-parts}
-use Rattle.planning.proofs.Answering.{plan-unread}
 use Rattle.planner.specs.Demand2.{RefusedBehind, PartOf, NotAPart, WithoutBudget, SupplyFits, Demand2}
 use Rattle.planner.proofs.Weighing.{weighed-outcome, not-iff, wrong-count-iff, bad-row-iff, no-time-iff}
 use Rattle.planner.proofs.KeptList.{no-budget-iff}
@@ -188,6 +187,10 @@ module _ (P Q t : ℕ) where
 fits-or-14 : (text : List ℕ) (room : ℕ) (b : Bool) → leb (length text) room ≡ b → (cond b (answered text) (refused NoRoom) ≡ refused NoRoom) ↔ (room < length text)
 fits-or-14 text room true e = ((λ h. absurd (answered-not-refused h)), λ l. absurd (omega (arith, leb-true (length text) room e)))
 fits-or-14 text room false e = ((λ h. omega (arith, leb-false (length text) room e)), λ l. refl)
+
+plan-unread : (s : List ℕ) (r : Refusal) → readFile s ≡ refused r → (room : ℕ) → planOf s room ≡ refused r
+unfolding planOf whenAnswered
+plan-unread s r e room = rw e refl
 
 module _ (s : List ℕ) (room : ℕ) where
   abbrev NoRoomFor : Type 0

@@ -86,9 +86,16 @@ module _ (p : FilePart) where
   }
 
   pub kept-settled : (a b : Kept) → KeptIs p a → KeptIs p b → a ≡ b
-  kept-settled a b k j =
-      let e = pairwise-unique Above (λ c d h g. omega arith) (k .list) (j .list) (number-pairwise Above (pair 0 0) (k .list) (k .falling)) (number-pairwise Above (pair 0 0) (j .list) (j .falling)) (λ c m. j .members c .1 (k .members c .0 m)) (λ c m. k .members c .1 (j .members c .0 m)) in
-      λ i. record { pairs = (k .pairs ∙ ap (pad 121 (pair 0 0)) e ∙ sym (j .pairs)) i; count = (k .count ∙ ap length e ∙ sym (j .count)) i }
+  kept-settled a b k j = λ i. record { pairs = (k .pairs ∙ ap (pad 121 (pair 0 0)) same ∙ sym (j .pairs)) i; count = (k .count ∙ ap length same ∙ sym (j .count)) i }
+    where
+      falls : {c : Kept} (h : KeptIs p c) → Pairwise Above (h .list)
+      falls h = number-pairwise Above (pair 0 0) (h .list) (h .falling)
+
+      into : {c d : Kept} (h : KeptIs p c) (g : KeptIs p d) (x : Pair) → List·Memᴰ x (h .list) → List·Memᴰ x (g .list)
+      into h g x m = g .members x .1 (h .members x .0 m)
+
+      same : k .list ≡ j .list
+      same = pairwise-unique Above (λ c d h g. omega arith) (k .list) (j .list) (falls k) (falls j) (into k j) (into j k)
 
   -- question 10 for this part alone
   none-empty : (cs : List Pair) → not (isEmpty cs) ≡ false → cs ≡ []

@@ -1,4 +1,4 @@
--- What the rows or tasks before one ask does not hang on whether they are counted up or down: the greatest of a list is that of the list reversed.
+-- What the rows or tasks before one ask is the same whether they are counted up or down: the greatest of a list is that of the list reversed.
 -- Assumes nothing.
 use Prim.Native.Nat.{ℕ, suc, _+_, max}
 use native.Mathlib.Omega.{arith}

@@ -39,16 +39,21 @@ use Rattle.planner.specs.Demand2.{PartOf, SupplyFits}
 
 pub record KeptIs (p : FilePart) (a : Kept) : Type 0 where
   pub list : List Pair
+  -- exactly the kept pairs, over every setting and every budget
   pub members : (c : Pair) → List·Memᴰ c list ↔ IsKept (p .period) (tasksIn p) (lockCount p) c
+  -- in falling X
   pub falling : (i j : ℕ) → 1 ≤ i → i < j → j ≤ length list → nthOr (pair 0 0) j list .holding < nthOr (pair 0 0) i list .holding
+  -- up to 121 pairs
   pub few : length list ≤ 121
   pub count : a .count ≡ length list
-  -- unused places are zero
+  -- in their places, and unused places are zero
   pub pairs : a .pairs ≡ pad 121 (pair 0 0) list
 
 pub record NameIs (s : List ℕ) (k : ℕ) (p : FilePart) (n : NameStretch) : Type 0 where
   pub done : n .outcome ≡ Done
+  -- the stretch on the k-th `part` line
   pub span : n .span ≡ nthOr noSpan k (nameSpans s)
+  -- its bytes are the name
   pub bytes : bytesOf s (n .span) ≡ p .name
 
 -- a refused weighing has zeros everywhere else
@@ -58,12 +63,13 @@ notWeighed r = record { outcome = Refused r; bounds = replicate rowLimit (frac 0
 pub record EveryNumber : Type 0 where
   -- the supply of (P,Q) in t ticks
   pub supply : (P Q t : ℕ) → SupplyFits P Q t → supplied (supplyAnswer P Q t) ≡ record { outcome = Done; ticks = supplyOf P Q t }
-  -- every row's bound and the load
+  -- weighing gives every row's bound and the load
   pub weigh : (rows : List Row) → weighOf rows .outcome ≡ Done → WeighedIs rows (weighOf rows)
-  -- the kept pairs and their count, answered exactly if some permitted setting of the part has a budget
+  -- candidates are answered exactly if some permitted setting of the part has a budget
   pub candidates : (s : List ℕ) (k : ℕ) → (candidateList (candidatesOf s k) .outcome ≡ Done) ↔ ((p : FilePart) × PartOf s k p × (σ : Setting) × (Q : ℕ) × Budgeted p σ Q)
+  -- the candidate answer is the kept pairs (Q,X) and their count
   pub kept : (s : List ℕ) (k : ℕ) (p : FilePart) → PartOf s k p → KeptIs p (candidateList (candidatesOf s k) .kept)
-  -- the name of part k, as that stretch of the file
+  -- the name of a part is handed back as that stretch of the caller's own file
   pub name : (s : List ℕ) (k : ℕ) (p : FilePart) → PartOf s k p → nameBytes (nameOf s k) ≡ p .name
   pub stretch : (s : List ℕ) (k : ℕ) (p : FilePart) → PartOf s k p → NameIs s k p (nameStretch s k)
   -- a plan counts the bytes it wrote

@@ -59,9 +59,12 @@ pub record NoTimeAt (rows : List Row) (j : ℕ) : Type 0 where
   pub before : (i : ℕ) → 1 ≤ i → i < j → (t : ℕ) × TimeOf rows i t
 
 pub record BoundIs (rows : List Row) (i : ℕ) (b : Frac) : Type 0 where
+  -- L(t)/t for a time t of the row
   pub time : TimeOf rows i (b .den)
   pub value : b .num ≡ L rows i (b .den)
+  -- the least among those
   pub least : (u : ℕ) → TimeOf rows i u → b ⊑ frac (L rows i u) u
+  -- shown with the smallest such t
   pub smallest : (u : ℕ) → TimeOf rows i u → frac (L rows i u) u ⊑ b → b .den ≤ u
 
 -- the bound that w has for row i
@@ -70,6 +73,7 @@ boundAt w i = nthOr (frac 0 0) i (w .bounds)
 
 pub record WeighedIs (rows : List Row) (w : Weighed) : Type 0 where
   pub done : w .outcome ≡ Done
+  -- every row's bound
   pub bounds : (i : ℕ) → 1 ≤ i → i ≤ length rows → BoundIs rows i (boundAt w i)
   -- unused places are zero
   pub places : length (w .bounds) ≡ rowLimit
