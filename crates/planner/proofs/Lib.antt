@@ -1,7 +1,13 @@
 pub mod Local
+pub mod Reversed
+pub mod LocalTest
+pub mod Weighing
+pub mod KeptList
+pub mod Names
 pub mod Demand3
 pub mod Exactly
 pub mod Settled
 pub mod Short
 pub mod Demand2
+pub mod Numbers
 pub mod Demand1

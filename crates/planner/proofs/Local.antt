@@ -28,7 +28,7 @@ unfolding candidateList whenDone firstNo isEmpty
 none-or-kept k [] = refl
 none-or-kept k (c ∷ cs) = refl
 
-candidates-kept : (s : List ℕ) (k : ℕ) (ps : List FilePart) → readFile s ≡ answered ps → 1 ≤ k → k ≤ length ps → candidateList (candidatesOf s k) .kept ≡ keptAnswer (keptPairs (nthOr noPart k ps))
+pub candidates-kept : (s : List ℕ) (k : ℕ) (ps : List FilePart) → readFile s ≡ answered ps → 1 ≤ k → k ≤ length ps → candidateList (candidatesOf s k) .kept ≡ keptAnswer (keptPairs (nthOr noPart k ps))
 unfolding candidatesOf whenAnswered firstNo
 candidates-kept s k ps e a b = rw e (simp (le-leb 1 k a, le-leb k (length ps) b) (none-or-kept k (keptPairs (nthOr noPart k ps))))
 

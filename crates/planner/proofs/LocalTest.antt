@@ -1,0 +1,105 @@
+-- The local test is what the paper says, and only one number is such.
+-- Assumes nothing.
+use Prim.Native.Nat.{ℕ, _≤_}
+use native.Mathlib.Omega.{arith}
+use mathlib.Core.Path.{_≡_, ap, _∙_}
+use mathlib.Core.Bool.{true}
+use mathlib.Core.Logic.{inl, inr, ⊎-elim, _↔_}
+use mathlib.Core.List.{List, _∷_, _++_, reverse, reverse-reverse}
+use Rattle.least.specs.Search.{IsLeast}
+use Rattle.task_set.specs.declared.Task.{Task}
+use Rattle.task_set.specs.Blocking.{Setting, blockingOf, needOf}
+use Rattle.task_set.proofs.Blocking.{blocking-paper}
+use Rattle.holding.specs.Holding.{HoldingTime, holdingTimeOf}
+use Rattle.holding.proofs.Holding.{held-paper, inRange-paper, permitted-paper, holdingTime-paper}
+use Rattle.budget.specs.Budget.{passes}
+use Rattle.budget.proofs.Passing.{passes-paper, budget-iff}
+use Rattle.candidates.specs.declared.Pair.{Pair}
+use Rattle.candidates.specs.Statement.{Permitted, Candidate}
+use Rattle.planner.specs.LocalTest.{LockHolding, PermittedAt, PartHolding, BlockingIs, Passes, LeastPassing, LocalTest}
+use Rattle.planner.proofs.Reversed.{blocking-reverse}
+
+lock-holding-iff : (ts : List Task) (l r w : ℕ) → HoldingTime ts l r w ↔ LockHolding ts l r w
+lock-holding-iff ts l r w = (
+  (λ h. record { some = h .positive; held = held-paper ts l r w .0 (h .passes); least = λ v a b. h .first v a (held-paper ts l r v .1 b) }),
+  (λ h. record { positive = h .some; passes = held-paper ts l r w .1 (h .held); first = λ v a b. h .least v a (held-paper ts l r v .0 b) }),
+)
+
+permitted-iff : (ts : List Task) (m : ℕ) (σ : Setting) → Permitted ts m σ ↔ ((l : ℕ) → 1 ≤ l → l ≤ m → PermittedAt ts l (σ l))
+permitted-iff ts m σ = (to, from)
+  where
+    to : Permitted ts m σ → (l : ℕ) → 1 ≤ l → l ≤ m → PermittedAt ts l (σ l)
+    to p l a b =
+        let r = inRange-paper ts m σ .0 (p .ranged) l a b in
+        let t = permitted-paper ts m σ .0 (p .held) l a b in
+        record { lowest = r .0; most = r .1; time = t .0; holds = lock-holding-iff ts l (σ l) (t .0) .0 (t .1); in-time = t .2 }
+
+    from : ((l : ℕ) → 1 ≤ l → l ≤ m → PermittedAt ts l (σ l)) → Permitted ts m σ
+    from h = record {
+      ranged = inRange-paper ts m σ .1 (λ l a b. (h l a b .lowest, h l a b .most));
+      held = permitted-paper ts m σ .1 (λ l a b. let k = h l a b in (k .time, lock-holding-iff ts l (σ l) (k .time) .1 (k .holds), k .in-time));
+    }
+
+holding-is : (ts : List Task) (m : ℕ) (σ : Setting) → Permitted ts m σ → PartHolding ts m σ (holdingTimeOf ts m σ)
+holding-is ts m σ p =
+    let g = holdingTime-paper ts m σ (p .held) in
+    record {
+      each = λ l w a b h. g .each l w a b (lock-holding-iff ts l (σ l) w .1 h);
+      one = ⊎-elim inl (λ k. inr (k .0, k .1, k .2, lock-holding-iff ts (k .0) (σ (k .0)) (holdingTimeOf ts m σ) .0 (k .3))) (g .one);
+    }
+
+blocking-is : (m : ℕ) (σ : Setting) (lower : List Task) → BlockingIs m σ lower (blockingOf m σ lower)
+blocking-is m σ lower =
+    let g = blocking-paper m σ lower in
+    record {
+      each = λ h l k. g .0 h l (k .below, record { from = k .from; upto = k .to; ceiling = k .ceiling });
+      one = ⊎-elim inl (λ k. let r = k .2 .1 in inr (k .0, k .1, record { below = k .2 .0; from = r .from; to = r .upto; ceiling = r .ceiling }, k .3)) (g .1);
+    }
+
+module _ (P : ℕ) (ts : List Task) (m : ℕ) (σ : Setting) where
+  passes-iff : (Q : ℕ) → (passes P ts m σ Q ≡ true) ↔ Passes P ts m σ Q
+  unfolding needOf
+  passes-iff Q = (to, from)
+    where
+      to : passes P ts m σ Q ≡ true → Passes P ts m σ Q
+      to q lower task higher e =
+          let h = passes-paper P ts m σ Q .0 q (reverse lower) task higher (ap (λ (l : List Task). l ++ (task ∷ higher)) (reverse-reverse lower) ∙ e) in
+          (h .0, h .1, h .2, omega (arith, h .3, blocking-reverse m σ lower))
+
+      from : Passes P ts m σ Q → passes P ts m σ Q ≡ true
+      from f = passes-paper P ts m σ Q .1 (λ lower task higher e. let h = f (reverse lower) task higher e in (h .0, h .1, h .2, omega (arith, h .3, blocking-reverse m σ lower)))
+
+  least-iff : (Q : ℕ) → (IsLeast (passes P ts m σ) Q × (Q ≤ P)) ↔ LeastPassing P ts m σ Q
+  least-iff Q = (
+    (λ h. record { some = h .0 .positive; most = h .1; passing = passes-iff Q .0 (h .0 .passes); least = λ R a f. h .0 .first R a (passes-iff R .1 f) }),
+    (λ h. (record { positive = h .some; passes = passes-iff Q .1 (h .passing); first = λ R a f. h .least R a (passes-iff R .0 f) }, h .most)),
+  )
+
+candidate-iff : (P : ℕ) (ts : List Task) (m : ℕ) (c : Pair) → Candidate P ts m c ↔ ((σ : Setting) × Permitted ts m σ × (holdingTimeOf ts m σ ≡ c .holding) × LeastPassing P ts m σ (c .budget))
+candidate-iff P ts m c = (
+  (λ d. (d .setting, d .allowed, d .holding, least-iff P ts m (d .setting) (c .budget) .0 (budget-iff P ts m (d .setting) (c .budget) .0 (d .budget)))),
+  (λ h. record { setting = h .0; allowed = h .1; holding = h .2; budget = budget-iff P ts m (h .0) (c .budget) .1 (least-iff P ts m (h .0) (c .budget) .1 (h .3)) }),
+)
+
+pub local-test : LocalTest
+local-test = record { permitted = permitted-iff; holding = holding-is; blocking = blocking-is; budget = passes-iff; candidate = candidate-iff }
+
+pub lock-holding-settled : {ts : List Task} {l r v w : ℕ} → LockHolding ts l r v → LockHolding ts l r w → v ≡ w
+lock-holding-settled {v = v} {w = w} h k = omega (arith, h .least w (k .some) (k .held), k .least v (h .some) (h .held))
+
+module _ {ts : List Task} {m : ℕ} {σ : Setting} where
+  holding-le : {X Y : ℕ} → PartHolding ts m σ X → PartHolding ts m σ Y → X ≤ Y
+  holding-le {X} h k = ⊎-elim (λ z. omega (arith, z .1)) (λ r. k .each (r .0) X (r .1) (r .2) (r .3)) (h .one)
+
+  pub holding-settled : {X Y : ℕ} → PartHolding ts m σ X → PartHolding ts m σ Y → X ≡ Y
+  holding-settled h k = omega (arith, holding-le h k, holding-le k h)
+
+module _ {m : ℕ} {σ : Setting} {lower : List Task} where
+  blocking-le : {b c : ℕ} → BlockingIs m σ lower b → BlockingIs m σ lower c → b ≤ c
+  blocking-le h k = ⊎-elim (λ z. omega arith) (λ r. omega (arith, r .3, k .each (r .0) (r .1) (r .2))) (h .one)
+
+  pub blocking-settled : {b c : ℕ} → BlockingIs m σ lower b → BlockingIs m σ lower c → b ≡ c
+  blocking-settled h k = omega (arith, blocking-le h k, blocking-le k h)
+
+pub budget-settled : {P : ℕ} {ts : List Task} {m : ℕ} {σ : Setting} {Q R : ℕ} → LeastPassing P ts m σ Q → LeastPassing P ts m σ R → Q ≡ R
+budget-settled {Q = Q} {R = R} h k = omega (arith, h .least R (k .some) (k .passing), k .least Q (h .some) (h .passing))

@@ -1,0 +1,85 @@
+-- Demand 2 as a statement, its half about numbers: what every number of an answer is, by the paper's sentence. The holding times, blockings and budgets
+-- of the kept pairs are in LocalTest; what a plan prints is demand 3.
+--   KeptIs p a      == a has the kept pairs of the part p, in falling X, up to 121, and their count
+--   NameIs s k p n  == n is the stretch of the name of part k, which is p, on its `part` line
+--   EveryNumber     == the numbers of the five operations, answered and refused
+-- Assumes nothing.
+use Prim.Native.Nat.{ℕ, _≤_, _<_}
+use mathlib.Core.Path.{_≡_}
+use mathlib.Core.Logic.{_↔_}
+use mathlib.Core.List.{List, [], List·Memᴰ}
+use lib.ListN.{length, replicate}
+use Rattle.least.specs.Lists.{nthOr, pad}
+use Rattle.least.specs.Fraction.{frac}
+use Rattle.refusal.specs.declared.Refusal.{Refusal}
+use Rattle.refusal.specs.declared.Outcome.the-variants.{Done, Refused}
+use Rattle.refusal.specs.Limits.{rowLimit}
+use Rattle.refusal.specs.Questions.Answer.{answered, refused}
+use Rattle.supply.specs.Supply.{supplyOf}
+use Rattle.scan.specs.Scan.{bytesOf}
+use Rattle.task_set.specs.Blocking.{Setting}
+use Rattle.candidates.specs.declared.Pair.{Pair}
+use Rattle.candidates.specs.declared.Kept.{Kept}
+use Rattle.candidates.specs.Candidates.{pair}
+use Rattle.candidates.specs.Statement.{IsKept}
+use Rattle.load.specs.declared.Row.{Row}
+use Rattle.load.specs.declared.Rows.{Rows}
+use Rattle.load.specs.declared.Weighed.{Weighed}
+use Rattle.load.specs.Weigh.{weighOf, weighRows}
+use Rattle.plan_file.specs.Above.{FilePart}
+use Rattle.plan_file.specs.Entries.{noSpan}
+use Rattle.plan_file.specs.Numbers.{lockCount, tasksIn}
+use Rattle.plan_file.specs.Stretches.{nameSpans}
+use Rattle.answers.specs.Answers.{planOf, planned, candidatesOf, candidateList, nameOf, nameBytes, supplyAnswer, supplied}
+use Rattle.answers.specs.Choice.{Budgeted}
+use Rattle.inquiries.specs.declared.NameStretch.{NameStretch}
+use Rattle.inquiries.specs.Stretch.{nameStretch}
+use Rattle.planner.specs.Weighing.{WeighedIs}
+use Rattle.planner.specs.Demand2.{PartOf, SupplyFits}
+
+pub record KeptIs (p : FilePart) (a : Kept) : Type 0 where
+  pub list : List Pair
+  -- exactly the kept pairs, over every setting and every budget
+  pub members : (c : Pair) → List·Memᴰ c list ↔ IsKept (p .period) (tasksIn p) (lockCount p) c
+  -- in falling X
+  pub falling : (i j : ℕ) → 1 ≤ i → i < j → j ≤ length list → nthOr (pair 0 0) j list .holding < nthOr (pair 0 0) i list .holding
+  -- up to 121 pairs
+  pub few : length list ≤ 121
+  pub count : a .count ≡ length list
+  -- in their places, and unused places are zero
+  pub pairs : a .pairs ≡ pad 121 (pair 0 0) list
+
+pub record NameIs (s : List ℕ) (k : ℕ) (p : FilePart) (n : NameStretch) : Type 0 where
+  pub done : n .outcome ≡ Done
+  -- the stretch on the k-th `part` line
+  pub span : n .span ≡ nthOr noSpan k (nameSpans s)
+  -- its bytes are the name
+  pub bytes : bytesOf s (n .span) ≡ p .name
+
+-- a refused weighing has zeros everywhere else
+abbrev pub notWeighed : Refusal → Weighed
+notWeighed r = record { outcome = Refused r; bounds = replicate rowLimit (frac 0 0); load = frac 0 0; row = 0 }
+
+pub record EveryNumber : Type 0 where
+  -- the supply of (P,Q) in t ticks
+  pub supply : (P Q t : ℕ) → SupplyFits P Q t → supplied (supplyAnswer P Q t) ≡ record { outcome = Done; ticks = supplyOf P Q t }
+  -- weighing gives every row's bound and the load
+  pub weigh : (rows : List Row) → weighOf rows .outcome ≡ Done → WeighedIs rows (weighOf rows)
+  -- candidates are answered exactly if some permitted setting of the part has a budget
+  pub candidates : (s : List ℕ) (k : ℕ) → (candidateList (candidatesOf s k) .outcome ≡ Done) ↔ ((p : FilePart) × PartOf s k p × (σ : Setting) × (Q : ℕ) × Budgeted p σ Q)
+  -- the candidate answer is the kept pairs (Q,X) and their count
+  pub kept : (s : List ℕ) (k : ℕ) (p : FilePart) → PartOf s k p → KeptIs p (candidateList (candidatesOf s k) .kept)
+  -- the name of a part is handed back as that stretch of the caller's own file
+  pub name : (s : List ℕ) (k : ℕ) (p : FilePart) → PartOf s k p → nameBytes (nameOf s k) ≡ p .name
+  pub stretch : (s : List ℕ) (k : ℕ) (p : FilePart) → PartOf s k p → NameIs s k p (nameStretch s k)
+  -- a plan counts the bytes it wrote
+  pub plan : (s : List ℕ) (room : ℕ) (text : List ℕ) → planOf s room ≡ answered text → planned (planOf s room) ≡ record { outcome = Done; written = length text }
+  -- a refusal consists of its number and its place, with every other number of the answer zero
+  pub refused-supply : (P Q t : ℕ) (r : Refusal) → supplyAnswer P Q t ≡ refused r → supplied (supplyAnswer P Q t) ≡ record { outcome = Refused r; ticks = 0 }
+  pub refused-weigh : (rows : List Row) (r : Refusal) → weighOf rows .outcome ≡ Refused r → weighOf rows ≡ notWeighed r
+  pub refused-weigh-struct : (rows : Rows) (r : Refusal) → weighRows rows .outcome ≡ Refused r → weighRows rows ≡ notWeighed r
+  pub refused-candidates : (s : List ℕ) (k : ℕ) (r : Refusal) → candidatesOf s k ≡ refused r
+      → candidateList (candidatesOf s k) ≡ record { outcome = Refused r; kept = record { pairs = replicate 121 (pair 0 0); count = 0 } }
+  pub refused-name : (s : List ℕ) (k : ℕ) (r : Refusal) → nameOf s k ≡ refused r → nameBytes (nameOf s k) ≡ []
+  pub refused-stretch : (s : List ℕ) (k : ℕ) (r : Refusal) → nameOf s k ≡ refused r → nameStretch s k ≡ record { outcome = Refused r; span = record { start = 0; len = 0 } }
+  pub refused-plan : (s : List ℕ) (room : ℕ) (r : Refusal) → planOf s room ≡ refused r → planned (planOf s room) ≡ record { outcome = Refused r; written = 0 }
