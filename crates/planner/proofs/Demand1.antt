@@ -24,10 +24,10 @@ use Rattle.answers.specs.declared.Planned.{Planned}
 use Rattle.answers.specs.Answers.{planQuestions, planOf, planned, bufferAfter, HandedOver, PlanAnswered}
 use Rattle.planning.proofs.Answering.{plan-unread}
 use Rattle.planner.specs.Demand1.{OfTheFile, OfThePlan, Demand1}
-use Rattle.planner.specs.Demand2.{RefusedBehind}
+use Rattle.planner.specs.Refusals.{RefusedBehind}
 use Rattle.planner.specs.Demand3.{Demanded}
 use Rattle.planner.specs.Demand3.Demanded.{fits}
-use Rattle.planner.proofs.Demand2.{demand-2}
+use Rattle.planner.proofs.Refusals.{every-refusal}
 use Rattle.planner.proofs.Demand3.{plan-demanded}
 
 -- the refusal of a file, or one about its parts
@@ -58,7 +58,7 @@ answered-fits s room text e = go (readFile s) refl
 
 plan-refusal : (s : List ℕ) (room : ℕ) (r : Refusal) → planOf s room ≡ refused r → OfThePlan r
 unfolding planQuestions choiceQuestions
-plan-refusal s room r e = numbered (λ parts f. some-budget (first-of-three _ _ _ r f)) (demand-2 .plan s room r .0 e)
+plan-refusal s room r e = numbered (λ parts f. some-budget (first-of-three _ _ _ r f)) (every-refusal .plan s room r .0 e)
 
 -- what a plan hands over
 module _ (s before : List ℕ) (r : Planned) (after : List ℕ) where
@@ -83,9 +83,9 @@ demand-1 = record {
   plan = λ s before r after h. complete-or-refused s before r after (planOf s (length before)) refl h;
   untouched = λ s before r after x h e. refused-untouched s before r after (planOf s (length before)) x h e;
   others = λ s before r after h. others-untouched s before r after (planOf s (length before)) h;
-  candidates = λ s k r e. numbered (λ parts f. first-of-two _ _ r f) (demand-2 .candidates s k r .0 e);
-  name = λ s k r e. numbered (λ parts f. only-first _ r f) (demand-2 .name s k r .0 e);
-  weigh = λ rows r e. some-row (first-of-three _ _ _ r (demand-2 .weigh rows r .0 e));
-  weigh-struct = λ rows r e. ⊎-elim (λ h. inl (0, h)) (λ f. some-row (first-of-three _ _ _ r f)) (first-or-later _ _ r (demand-2 .weigh-struct rows r .0 e));
-  supply = λ P Q t r e. only-first _ r (demand-2 .supply P Q t r .0 e);
+  candidates = λ s k r e. numbered (λ parts f. first-of-two _ _ r f) (every-refusal .candidates s k r .0 e);
+  name = λ s k r e. numbered (λ parts f. only-first _ r f) (every-refusal .name s k r .0 e);
+  weigh = λ rows r e. some-row (first-of-three _ _ _ r (every-refusal .weigh rows r .0 e));
+  weigh-struct = λ rows r e. ⊎-elim (λ h. inl (0, h)) (λ f. some-row (first-of-three _ _ _ r f)) (first-or-later _ _ r (every-refusal .weigh-struct rows r .0 e));
+  supply = λ P Q t r e. only-first _ r (every-refusal .supply P Q t r .0 e);
 }

@@ -29,7 +29,7 @@ use Rattle.plan_file.proofs.Fine.{FineFilePart}
 use Rattle.plan_file.proofs.FineTasks.{each-lock-used}
 use Rattle.answers.specs.Parts.{keptPairs}
 use Rattle.answers.specs.Choice.{Budgeted}
-use Rattle.planner.specs.Demand2.{WithoutBudget}
+use Rattle.planner.specs.Refusals.{WithoutBudget}
 use Rattle.planner.specs.Numbers.{KeptIs}
 
 -- a relation between each element and each after it, by their numbers

@@ -8,6 +8,7 @@ pub mod Demand3
 pub mod Exactly
 pub mod Settled
 pub mod Short
-pub mod Demand2
+pub mod Refusals
 pub mod Numbers
+pub mod Demand2
 pub mod Demand1

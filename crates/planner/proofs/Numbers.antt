@@ -31,13 +31,13 @@ use Rattle.answers.specs.Parts.{keptPairs}
 use Rattle.answers.specs.Answers.{planned, isPartNumber, candidatesOf, candidateList, nameOf, nameBytes, supplyAnswer, supplied}
 use Rattle.answers.specs.Choice.{Budgeted}
 use Rattle.inquiries.specs.Stretch.{noName, stretched, nameStretch}
-use Rattle.planner.specs.Demand2.{PartOf, SupplyFits}
+use Rattle.planner.specs.Refusals.{PartOf, SupplyFits}
 use Rattle.planner.specs.Numbers.{KeptIs, NameIs, notWeighed, EveryNumber}
 use Rattle.planner.proofs.Local.{candidates-kept}
 use Rattle.planner.proofs.Weighing.{weighed-outcome, weighOf-is}
 use Rattle.planner.proofs.KeptList.{kept-is, no-budget-iff, some-budget}
 use Rattle.planner.proofs.Names.{name-stretch}
-use Rattle.planner.proofs.Demand2.{number-iff, candidates-read, candidates-unread, name-read, supply-fits-iff}
+use Rattle.planner.proofs.Refusals.{number-iff, candidates-read, candidates-unread, name-read, supply-fits-iff}
 
 supply-is : (P Q t : ℕ) → SupplyFits P Q t → supplied (supplyAnswer P Q t) ≡ record { outcome = Done; ticks = supplyOf P Q t }
 unfolding supplied supplyAnswer whenDone firstNo

@@ -1,82 +1,15 @@
--- Demand 2 as a statement, its half about refusals: each refusal comes if its question has the answer no and those before it have yes, and in no other
--- case. The half about numbers is `EveryNumber` in Numbers and `LocalTest`.
---   RefusedBehind s questions r == the file s is refused with r by questions 1 to 9, or it is readable and r comes from the questions of its parts
---   PartOf s k p     == the file s is readable, and p is its part k
---   NotAPart s k     == the file s is readable, and k is not the number of a part
---   WithoutBudget p  == no permitted setting of the part has a budget
---   SupplyFits P Q t == 1 ≤ Q ≤ P ≤ 65,535 and t ≤ 65,535
+-- Demand 2 as a statement: every supply, holding time, budget, blocking, candidate list, load and name equals the equations as paper 01 fixes them in
+-- whole ticks, and each refusal comes if its question has the answer no and those before it have yes, and in no other case. The printed lines are in
+-- demand 3.
 -- Assumes nothing.
-use Prim.Native.Nat.{ℕ, _≤_, _<_}
-use mathlib.Core.Path.{_≡_}
-use mathlib.Core.Logic.{_⊎_, _↔_}
-use mathlib.Core.List.{List, map}
-use lib.ListN.{length}
-use Rattle.least.specs.Lists.{nthOr}
-use Rattle.refusal.specs.declared.Refusal.{Refusal}
-use Rattle.refusal.specs.declared.Refusal.the-variants.{NoBudget, BadHandSet, NoTime, NoRoom}
-use Rattle.refusal.specs.declared.Outcome.the-variants.{Refused}
-use Rattle.refusal.specs.Limits.{numberLimit, rowLimit}
-use Rattle.refusal.specs.Questions.{Question}
-use Rattle.refusal.specs.Questions.Answer.{answered, refused}
-use Rattle.refusal.specs.FirstNo.{FirstNo}
-use Rattle.task_set.specs.Blocking.{Setting}
-use Rattle.load.specs.declared.Row.{Row}
-use Rattle.load.specs.declared.Rows.{Rows}
-use Rattle.load.specs.Weigh.{weighQuestions, weighOf, rowsOf, structQuestions, weighRows}
-use Rattle.plan_file.specs.Above.{FilePart, noPart}
-use Rattle.plan_file.specs.Statement.{RefusedAt, AnsweredBy}
-use Rattle.answers.specs.Parts.{keptRows}
-use Rattle.answers.specs.Answers.{planRows, planText, planQuestions, planOf, candidateQuestions, candidatesOf, nameQuestions, nameOf, supplyQuestions, supplyAnswer}
-use Rattle.answers.specs.Choice.{Budgeted}
-use Rattle.planner.specs.Weighing.{CountFits, BadRowAt, NoTimeAt}
-
-abbrev pub RefusedBehind : List ℕ → (List FilePart → List Question) → Refusal → Type 0
-RefusedBehind s questions r = RefusedAt s r ⊎ ((parts : List FilePart) × AnsweredBy s parts × FirstNo (questions parts) r)
-
-pub record PartOf (s : List ℕ) (k : ℕ) (p : FilePart) : Type 0 where
-  pub parts : List FilePart
-  pub readable : AnsweredBy s parts
-  pub from : 1 ≤ k
-  pub to : k ≤ length parts
-  pub is : nthOr noPart k parts ≡ p
-
-pub record NotAPart (s : List ℕ) (k : ℕ) : Type 0 where
-  pub parts : List FilePart
-  pub readable : AnsweredBy s parts
-  pub none : 1 ≤ k → k ≤ length parts → ⊥
-
-abbrev pub WithoutBudget : FilePart → Type 0
-WithoutBudget p = (σ : Setting) (Q : ℕ) → Budgeted p σ Q → ⊥
-
-pub record SupplyFits (P Q t : ℕ) : Type 0 where
-  pub budget-some : 1 ≤ Q
-  pub budget-most : Q ≤ P
-  pub period-most : P ≤ numberLimit
-  pub time-most : t ≤ numberLimit
+use Rattle.planner.specs.Refusals.{EveryRefusal}
+use Rattle.planner.specs.Numbers.{EveryNumber}
+use Rattle.planner.specs.LocalTest.{LocalTest}
 
 pub record Demand2 : Type 0 where
-  -- the refusal of every operation is that of the first question with the answer no
-  pub plan : (s : List ℕ) (room : ℕ) (r : Refusal) → (planOf s room ≡ refused r) ↔
-      RefusedBehind s (λ parts. let kept = map keptRows parts in planQuestions kept (planText parts (planRows kept)) room) r
-  pub candidates : (s : List ℕ) (k : ℕ) (r : Refusal) → (candidatesOf s k ≡ refused r) ↔ RefusedBehind s (candidateQuestions k) r
-  pub name : (s : List ℕ) (k : ℕ) (r : Refusal) → (nameOf s k ≡ refused r) ↔ RefusedBehind s (nameQuestions k) r
-  pub weigh : (rows : List Row) (r : Refusal) → (weighOf rows .outcome ≡ Refused r) ↔ FirstNo (weighQuestions rows) r
-  pub weigh-struct : (rows : Rows) (r : Refusal) → (weighRows rows .outcome ≡ Refused r) ↔ FirstNo (structQuestions rows) r
-  pub supply : (P Q t : ℕ) (r : Refusal) → (supplyAnswer P Q t ≡ refused r) ↔ FirstNo (supplyQuestions P Q t) r
-  -- 10 of candidates, for that part alone (its number); of a plan, see `Demand3`
-  pub candidates-10 : (s : List ℕ) (k j : ℕ) → (candidatesOf s k ≡ refused (NoBudget j)) ↔ ((j ≡ k) × (p : FilePart) × PartOf s k p × WithoutBudget p)
-  -- 12: is the part number that of a part in the file?
-  pub candidates-12 : (s : List ℕ) (k j : ℕ) → (candidatesOf s k ≡ refused (BadHandSet j)) ↔ ((j ≡ 0) × NotAPart s k)
-  pub name-12 : (s : List ℕ) (k j : ℕ) → (nameOf s k ≡ refused (BadHandSet j)) ↔ ((j ≡ 0) × NotAPart s k)
-  -- 12 for supply
-  pub supply-12 : (P Q t j : ℕ) → (supplyAnswer P Q t ≡ refused (BadHandSet j)) ↔ ((j ≡ 0) × (SupplyFits P Q t → ⊥))
-  -- 12 of weighing: 0 for a wrong row count, whatever the rows hold; else the first bad row
-  pub weigh-12-count : (rows : List Row) → (weighOf rows .outcome ≡ Refused (BadHandSet 0)) ↔ (CountFits rows → ⊥)
-  pub weigh-12-row : (rows : List Row) (j : ℕ) → 1 ≤ j → (weighOf rows .outcome ≡ Refused (BadHandSet j)) ↔ BadRowAt rows j
-  -- 13: has every weighed row a time t? The first row without one
-  pub weigh-13 : (rows : List Row) (j : ℕ) → (weighOf rows .outcome ≡ Refused (NoTime j)) ↔ NoTimeAt rows j
-  -- a struct with a count above its sixteen places is a wrong count too; any other is weighed as the list of its rows
-  pub weigh-struct-12 : (rows : Rows) → rowLimit < rows .count → weighRows rows .outcome ≡ Refused (BadHandSet 0)
-  pub weigh-struct-rows : (rows : Rows) → rows .count ≤ rowLimit → weighRows rows ≡ weighOf (rowsOf rows)
-  -- 14: the file has a listing, and this is longer than the lent bytes
-  pub plan-14 : (s : List ℕ) (room : ℕ) → (planOf s room ≡ refused NoRoom) ↔ ((text : List ℕ) × (planOf s (length text) ≡ answered text) × (room < length text))
+  -- of each operation, in which case each refusal comes
+  pub refusals : EveryRefusal
+  -- of each operation, what every number in its answer is
+  pub numbers : EveryNumber
+  -- the holding times, blockings and budgets that these are made of
+  pub local : LocalTest

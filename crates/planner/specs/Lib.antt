@@ -1,6 +1,7 @@
-pub mod Demand1
 pub mod Weighing
 pub mod LocalTest
-pub mod Demand2
+pub mod Refusals
 pub mod Numbers
+pub mod Demand1
+pub mod Demand2
 pub mod Demand3

@@ -1,5 +1,5 @@
--- Demand 2 as a statement, its half about numbers: what every number of an answer is, by the paper's sentence. The holding times, blockings and budgets
--- of the kept pairs are in LocalTest; what a plan prints is demand 3.
+-- Demand 2, its half about numbers: what every number of an answer is, by the paper's sentence. The holding times, blockings and budgets of the kept
+-- pairs are in LocalTest; what a plan prints is demand 3.
 --   KeptIs p a      == a has the kept pairs of the part p, in falling X, up to 121, and their count
 --   NameIs s k p n  == n is the stretch of the name of part k, which is p, on its `part` line
 --   EveryNumber     == the numbers of the five operations, answered and refused
@@ -35,7 +35,7 @@ use Rattle.answers.specs.Choice.{Budgeted}
 use Rattle.inquiries.specs.declared.NameStretch.{NameStretch}
 use Rattle.inquiries.specs.Stretch.{nameStretch}
 use Rattle.planner.specs.Weighing.{WeighedIs}
-use Rattle.planner.specs.Demand2.{PartOf, SupplyFits}
+use Rattle.planner.specs.Refusals.{PartOf, SupplyFits}
 
 pub record KeptIs (p : FilePart) (a : Kept) : Type 0 where
   pub list : List Pair
