@@ -19,7 +19,7 @@ THEOREMS = [
     ('planner', 'demand-1', 'Demand1 PlanAnswered'),
     ('planner', 'demand-2', 'Demand2'),
     ('planner', 'demand-3', 'Demand3 PlanAnswered'),
-    ('planner', 'text-settled', '(ps : List FilePart) (text other : List ℕ) → Printed ps text → Printed ps other → text ≡ other'),
+    ('planner', 'nothing-free', 'NothingFree'),
     ('examples', 'examples', 'AllHold table'),
     ('examples', 'all-shut-out', 'AllShutOut'),
 ]

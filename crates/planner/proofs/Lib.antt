@@ -12,3 +12,4 @@ pub mod Refusals
 pub mod Numbers
 pub mod Demand2
 pub mod Demand1
+pub mod NothingFree
