@@ -1,2 +1,3 @@
 pub mod SupplyLaws
+pub mod SignedLaws
 pub mod Small
