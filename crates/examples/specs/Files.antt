@@ -3,6 +3,8 @@
 --   cardAt P        == A with another period of the part card
 --   fileF           == table 1 of document 001, all times doubled, D = T, P = 250, locks r1 and r2
 --   onePart P tasks == a file with one part of period P and the given task lines
+--   everyTicks n    == a file with one task whose T is written n
+--   refusalLine     == what the program prints of a refusal with this number and place
 -- Assumes nothing.
 use Prim.Native.Nat.{ℕ}
 use Prim.Native.String.{String}
@@ -33,3 +35,12 @@ onePart P tasks = bytes "part\tp\t" ++ (bytes P ++ (bytes "\n" ++ (bytes tasks +
 
 unfoldable pub listingI : List ℕ
 listingI = bytes "load\tp\t10\t10\nshare\tp\t10\t10\t0\t10\t10\n"
+
+unfoldable pub everyTicks : String → List ℕ
+everyTicks n = bytes "part\tp\t1\ntask\tt\t" ++ (bytes n ++ bytes "\t1\t1\nend\n")
+
+unfoldable pub listingL : List ℕ
+listingL = bytes "load\tp\t1\t1\nshare\tp\t1\t1\t0\t1\t1\n"
+
+unfoldable pub refusalLine : ℕ → ℕ → List ℕ
+refusalLine number place = bytes "refused\t" ++ (digitsOf number ++ (bytes "\t" ++ (digitsOf place ++ bytes "\n")))
