@@ -1,3 +1,4 @@
 pub mod SupplyLaws
-pub mod SignedLaws
+pub mod SupplySigned
+pub mod CeilingLaws
 pub mod Small

@@ -1,6 +1,6 @@
 -- Paper 01's sentence on the supply in signed whole numbers, where no difference is cut off at 0.
 --   larger a b            == the larger of two numbers
---   ceilOf z d            == ⌈z/d⌉, for d from 1 on
+--   ceilOf z d            == ⌈z/d⌉, for d from 1 on: the least c with z ≤ c × d (laws `ceil-signed-covers`, `ceil-signed-least`)
 --   signedRound P Q t     == k: the larger of ⌈(t − (P−Q))/P⌉ and 1
 --   signedSupply P Q t    == the supply of (P,Q) in t ticks
 --   SignsMakeNoDifference == `supplyOf` is this supply (law `supply-signed`)

@@ -15,7 +15,7 @@ use Rattle.least.proofs.Round.{ceil-le}
 use Rattle.supply.specs.Supply.{roundOf, supplyAt, supplyOf}
 use Rattle.supply.specs.Signed.{larger, ceilOf, signedRound, signedAt, signedSupply, SignsMakeNoDifference}
 
-pos-minus : (a b : ℕ) → b ≤ a → pos a -ℤ pos b ≡ pos (a - b)
+pub pos-minus : (a b : ℕ) → b ≤ a → pos a -ℤ pos b ≡ pos (a - b)
 pos-minus a zero l = ap pos (omega arith)
 pos-minus a (suc b) l = rw (le-ltb a (suc b) l)
 
