@@ -1,15 +1,20 @@
 -- Examples A to L of paper 01: every claim of the table holds, from the definitions.
 -- Assumes nothing.
+use Prim.Native.Nat.{_+_, _<_}
+use native.Mathlib.Omega.{arith}
 use mathlib.Core.Path.{refl}
 use Rattle.examples.specs.Table.{table, AllHold, _and_, nothingMore}
 use Rattle.examples.proofs.Opened.{opened}
 use Rattle.examples.proofs.F.{keeps-F}
 
+smaller-B : (3 + 3 < 2 + 5) × (3 < 5)
+smaller-B = (omega arith, omega arith)
+
 pub examples : AllHold table
 unfolding opened
 examples =
     refl  -- A
-    and refl and refl and refl  -- B
+    and refl and refl and refl and smaller-B and refl  -- B
     and refl and refl  -- C
     and refl  -- D
     and refl  -- E

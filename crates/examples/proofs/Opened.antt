@@ -26,9 +26,10 @@ use Rattle.plan_file.specs.Numbers.{heldUnder, taskIn, lockCount, tasksIn}
 use Rattle.listing.specs.Listing.{ceilingsUnder, ceilingLine, shareLine, shareLines, loadLine, loadShare, listingOf, refusedLine}
 use Rattle.answers.specs.Parts.{keptPairs, keptRows, shareOf}
 use Rattle.answers.specs.Answers.{planRows, planText, planQuestions, planParts, planOf, candidatesOf, nameOf, supplyAnswer, planned, bufferAfter, candidateList, nameBytes, supplied}
-use Rattle.examples.specs.Files.{fileA, listingA, cardAt, listingC, listingD, fileF, onePart, listingI, fileTop, listingTop, fileSecond, listingSecond}
+use Rattle.console.specs.Printed.{printedText, printedOf}
+use Rattle.examples.specs.Files.{fileA, listingA, cardAt, listingC, listingD, fileF, onePart, listingI, everyTicks, listingL, refusalLine, fileTop, listingTop, fileSecond, listingSecond}
 use Rattle.examples.specs.Table.{partsIn, isOn}
 
 unfoldable pub opened : Unit {0}
-unfolding ceilDiv leastFrom anyFrom numberOr0 sum greatest smallest countFrom range isEmpty nthOr every some those joined numbersFrom firstFrom lastOr onLast pad everyBehind behind zip3 lesser greater leastOver greatestOf bytes same among mention distinctAfter intoLine linesOf intoField fieldsOf lineOf isDigit valueAfter digitsWithin digitsOf firstNo outcomeOf whenAnswered whenDone roundOf supplyAt supplyOf heldFor demandIn lowestCeiling greatestHeld smallestDeadline blockedBy blockingOf needOf held holdingOf inRange exists permitted holdingTimeOf taskPasses passes leastBudget settings candidateOf candidatesIn isKept insertByX inFallingX keptAmong keptList keptAnswer shownCeiling demandOf loadAt rowPasses passesSystem ratio boundOf boundsOf loadOf loadRow rowInRange weighQuestions weighed weighOf choices lighter leastLoaded choiceQuestions isAllowed lineIsGood isNameByte isName leadingZero isNumber recordOf lockMentions lockNames partsAfter isPart isEnd allowedHere partQuestions taskQuestions lockQuestions recordQuestions questionsAt readLines readFile heldUnder taskIn lockCount tasksIn ceilingsUnder ceilingLine shareLine shareLines loadLine loadShare listingOf refusedLine keptPairs keptRows shareOf planRows planText planQuestions planParts planOf candidatesOf nameOf supplyAnswer planned bufferAfter candidateList nameBytes supplied fileA listingA cardAt listingC listingD fileF onePart listingI fileTop listingTop fileSecond listingSecond partsIn isOn
+unfolding ceilDiv leastFrom anyFrom numberOr0 sum greatest smallest countFrom range isEmpty nthOr every some those joined numbersFrom firstFrom lastOr onLast pad everyBehind behind zip3 lesser greater leastOver greatestOf bytes same among mention distinctAfter intoLine linesOf intoField fieldsOf lineOf isDigit valueAfter digitsWithin digitsOf firstNo outcomeOf whenAnswered whenDone roundOf supplyAt supplyOf heldFor demandIn lowestCeiling greatestHeld smallestDeadline blockedBy blockingOf needOf held holdingOf inRange exists permitted holdingTimeOf taskPasses passes leastBudget settings candidateOf candidatesIn isKept insertByX inFallingX keptAmong keptList keptAnswer shownCeiling demandOf loadAt rowPasses passesSystem ratio boundOf boundsOf loadOf loadRow rowInRange weighQuestions weighed weighOf choices lighter leastLoaded choiceQuestions isAllowed lineIsGood isNameByte isName leadingZero isNumber recordOf lockMentions lockNames partsAfter isPart isEnd allowedHere partQuestions taskQuestions lockQuestions recordQuestions questionsAt readLines readFile heldUnder taskIn lockCount tasksIn ceilingsUnder ceilingLine shareLine shareLines loadLine loadShare listingOf refusedLine keptPairs keptRows shareOf planRows planText planQuestions planParts planOf candidatesOf nameOf supplyAnswer planned bufferAfter candidateList nameBytes supplied printedText printedOf fileA listingA cardAt listingC listingD fileF onePart listingI everyTicks listingL refusalLine fileTop listingTop fileSecond listingSecond partsIn isOn
 opened = tt

@@ -5,6 +5,8 @@
 --   fileTop, listingTop     == a file whose second part has a ceiling below the top, and its listing
 --   fileSecond, listingSecond == a file whose first choice does not pass while another does, and its listing
 --   onePart P tasks == a file with one part of period P and the given task lines
+--   everyTicks n    == a file with one task whose T is written n
+--   refusalLine     == what the program prints of a refusal with this number and place
 -- Assumes nothing.
 use Prim.Native.Nat.{ℕ}
 use Prim.Native.String.{String}
@@ -35,6 +37,15 @@ onePart P tasks = bytes "part\tp\t" ++ (bytes P ++ (bytes "\n" ++ (bytes tasks +
 
 unfoldable pub listingI : List ℕ
 listingI = bytes "load\tp\t10\t10\nshare\tp\t10\t10\t0\t10\t10\n"
+
+unfoldable pub everyTicks : String → List ℕ
+everyTicks n = bytes "part\tp\t1\ntask\tt\t" ++ (bytes n ++ bytes "\t1\t1\nend\n")
+
+unfoldable pub listingL : List ℕ
+listingL = bytes "load\tp\t1\t1\nshare\tp\t1\t1\t0\t1\t1\n"
+
+unfoldable pub refusalLine : ℕ → ℕ → List ℕ
+refusalLine number place = bytes "refused\t" ++ (digitsOf number ++ (bytes "\t" ++ (digitsOf place ++ bytes "\n")))
 
 unfoldable pub fileTop : List ℕ
 fileTop = bytes "part\ta\t6\ntask\tt\t11\t1\t11\nlock\tl\t1\npart\tb\t6\ntask\tt\t23\t2\t23\nlock\tl\t2\ntask\tu\t23\t1\t11\nend\n"

@@ -1,10 +1,10 @@
 -- Examples A to L of paper 01 as one table.
---   Claim    == what an example says of an operation or a definition
+--   Claim    == what an example says of the program, of an operation or of a definition
 --   Holds c  == that it is so
 --   table    == the claims, with the letters of paper 01
 --   AllHold  == every claim of a table holds
 -- Assumes nothing.
-use Prim.Native.Nat.{ℕ}
+use Prim.Native.Nat.{ℕ, _+_, _<_}
 use Prim.Native.String.{String}
 use mathlib.Core.Path.{_≡_}
 use mathlib.Core.Bool.{Bool, true, false}
@@ -12,10 +12,8 @@ use mathlib.Core.List.{List, [], _∷_}
 use Rattle.least.specs.declared.Frac.{Frac}
 use Rattle.least.specs.Lists.{nthOr, some, pad}
 use Rattle.least.specs.Fraction.{frac}
-use Rattle.text.specs.Bytes.{bytes}
 use Rattle.refusal.specs.declared.Outcome.the-variants.{Done}
-use Rattle.refusal.specs.Number.{numberOf, placeOf}
-use Rattle.refusal.specs.Questions.{Answer, outcomeOf}
+use Rattle.refusal.specs.Questions.{Answer}
 use Rattle.refusal.specs.Questions.Answer.{answered, refused}
 use Rattle.candidates.specs.declared.Pair.{Pair}
 use Rattle.candidates.specs.Candidates.{pair, samePair, candidateOf}
@@ -23,16 +21,16 @@ use Rattle.load.specs.declared.Row.{Row}
 use Rattle.load.specs.Load.{row}
 use Rattle.load.specs.Weigh.{weighOf}
 use Rattle.plan_file.specs.Above.{FilePart, noPart}
-use Rattle.fields.specs.Fields.{isNumber}
 use Rattle.plan_file.specs.Reading.{readFile}
 use Rattle.plan_file.specs.Numbers.{tasksIn, lockCount}
-use Rattle.answers.specs.Answers.{planOf, candidatesOf, supplyAnswer}
-use Rattle.examples.specs.Files.{fileA, listingA, cardAt, listingC, listingD, fileF, onePart, listingI}
+use Rattle.answers.specs.Answers.{candidatesOf, supplyAnswer}
+use Rattle.console.specs.Printed.{printedOf}
+use Rattle.examples.specs.Files.{refusalLine, fileA, listingA, cardAt, listingC, listingD, fileF, onePart, listingI, everyTicks, listingL}
 
 pub data Claim : Type 0 where
-  -- the file is planned, and this is its listing
+  -- the program prints this of the file
   prints : (file listing : List ℕ) → Claim
-  -- the file is refused with this number and this place
+  -- the program prints `refused` with this number and this place of the file
   refuses : (file : List ℕ) (number place : ℕ) → Claim
   -- the two files are the same bytes
   sameFile : (file other : List ℕ) → Claim
@@ -40,14 +38,14 @@ pub data Claim : Type 0 where
   offers : (file : List ℕ) (k : ℕ) (ceilings : List ℕ) (c : Pair) → Claim
   -- the candidate is not on the kept list of part k of the file
   drops : (file : List ℕ) (k : ℕ) (c : Pair) → Claim
+  -- the candidate has a smaller sum Q+X and a smaller X than the other
+  hasSmallerSumAndX : (c other : Pair) → Claim
   -- the kept list of part k of the file
   keeps : (file : List ℕ) (k : ℕ) (kept : List Pair) → Claim
   -- the bounds of these rows, their load, and the number of its row
   weighs : (rows : List Row) (bounds : List Frac) (load : Frac) (row : ℕ) → Claim
   -- the supply of (P,Q) in t ticks
   supplies : (P Q t ticks : ℕ) → Claim
-  -- the text is a number of a file
-  isANumber : (text : String) → Claim
 
 -- the parts of a readable file, none of any other
 unfoldable pub partsIn : List ℕ → List FilePart
@@ -60,25 +58,17 @@ unfoldable pub isOn : Pair → Answer (List Pair) → Bool
 isOn c (answered kept) = some (samePair c) kept
 isOn c (refused r) = false
 
--- the number and the place of a refusal
-pub record Numbered : Type 0 where
-  pub number : ℕ
-  pub place : ℕ
-
-abbrev pub refusalOf : Answer (List ℕ) → Numbered
-refusalOf a = record { number = numberOf (outcomeOf a); place = placeOf (outcomeOf a) }
-
 abbrev pub Holds : Claim → Type 0
-Holds (prints file listing) = planOf file 8192 ≡ answered listing
-Holds (refuses file number place) = refusalOf (planOf file 8192) ≡ record { number = number; place = place }
+Holds (prints file listing) = printedOf file ≡ listing
+Holds (refuses file number place) = printedOf file ≡ refusalLine number place
 Holds (sameFile file other) = file ≡ other
 Holds (offers file k ceilings c) =
     let p = partAt file k in candidateOf (p .period) (tasksIn p) (lockCount p) (λ l. nthOr 0 l ceilings) ≡ c ∷ []
 Holds (drops file k c) = isOn c (candidatesOf file k) ≡ false
+Holds (hasSmallerSumAndX c other) = (c .budget + c .holding < other .budget + other .holding) × (c .holding < other .holding)
 Holds (keeps file k kept) = candidatesOf file k ≡ answered kept
 Holds (weighs rows bounds load row) = weighOf rows ≡ record { outcome = Done; bounds = pad 16 (frac 0 0) bounds; load = load; row = row }
 Holds (supplies P Q t ticks) = supplyAnswer P Q t ≡ answered ticks
-Holds (isANumber text) = isNumber (bytes text) ≡ true
 
 pub record Example : Type 0 where
   pub letter : String
@@ -92,6 +82,8 @@ table =
     at "A" (prints fileA listingA)
     ∷ at "B" (offers fileA 2 (1 ∷ []) (pair 2 5))
     ∷ at "B" (drops fileA 2 (pair 2 5))
+    ∷ at "B" (offers fileA 2 (2 ∷ []) (pair 3 3))
+    ∷ at "B" (hasSmallerSumAndX (pair 3 3) (pair 2 5))
     ∷ at "B" (keeps fileA 2 (pair 3 3 ∷ []))
     ∷ at "C" (sameFile (cardAt 20) fileA)
     ∷ at "C" (prints (cardAt 10) listingC)
@@ -107,9 +99,9 @@ table =
     ∷ at "K" (supplies 10 3 17 3)
     ∷ at "K" (supplies 10 3 24 3)
     ∷ at "K" (supplies 10 3 25 4)
-    ∷ at "L" (isANumber "65535")
-    ∷ at "L" (refuses (onePart "65536" "task\tt\t10\t1\t10\n") 7 1)
-    ∷ at "L" (refuses (onePart "010" "task\tt\t10\t1\t10\n") 7 1)
+    ∷ at "L" (prints (everyTicks "65535") listingL)
+    ∷ at "L" (refuses (everyTicks "65536") 7 2)
+    ∷ at "L" (refuses (everyTicks "010") 7 2)
     ∷ []
 
 infixr 60 _and_

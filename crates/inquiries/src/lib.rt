@@ -10,8 +10,8 @@ ghost use mathlib.Core.Bool.{_&&_};
 ghost use lib.Dec.{leb};
 ghost use Rattle.refusal.specs.Questions.{outcomeOf};
 ghost use Rattle.refusal.specs.Questions.Answer.{refused};
-ghost use Rattle.answers.specs.Answers.{candidatesOf, candidateList, nameOf, nameBytes};
-ghost use Rattle.inquiries.specs.Stretch.{noName, StretchIs};
+ghost use Rattle.answers.specs.Answers.{candidatesOf, candidateList, nameOf};
+ghost use Rattle.inquiries.specs.Stretch.{noName, StretchIs, PartOf, NameIs};
 
 // Whether a number, counted from 1, is that of one of n parts.
 fn is_part_number(part: usize, n: usize) -> bool
@@ -70,13 +70,29 @@ pub fn name_outcome(file: &[u8], part: usize) -> Outcome
     o
 }
 
+// A stretch of a file, as that part of it; what the file has of it, where it runs past the end.
+fn part_of(file: &[u8], p: Span) -> &[u8]
+    ensures { λ r. ⌜ PartOf (file .entry) p r ⌝ }
+{
+    let start = p.start;
+    let len = p.len;
+    if file.len() <= start {
+        let end = file.len();
+        return &file[end..];
+    }
+    if file.len() - start <= len {
+        return &file[start..];
+    }
+    &file[start..start + len]
+}
+
 // The name of a part, counted from 1, as that stretch of the file; empty on refusal.
 pub fn name(file: &[u8], part: usize) -> &[u8]
-    ensures { λ r. ⌜ now r ≡ nameBytes (nameOf (now (file .entry)) part) ⌝ }
+    ensures { λ r. ⌜ NameIs (file .entry) part r ⌝ }
 {
     let n = name_stretch(file, part);
     let span = n.span;
-    scan::bytes(file, span)
+    part_of(file, span)
 }
 
 fn refused_list(r: Refusal) -> CandidateList

@@ -1,2 +1,4 @@
 pub mod SupplyLaws
+pub mod SupplySigned
+pub mod CeilingLaws
 pub mod Small

@@ -3,7 +3,7 @@
 --   roundOf P Q t  == k: the larger of ⌈(t − (P−Q))/P⌉ and 1
 --   supplyOf P Q t == the supply of (P,Q) in t ticks
 --   ReachIs P Q x r == r is the least t in which (P,Q) supplies x ticks
--- A difference is cut off at 0. That tells only in t − (P−Q), where k is 1 then, as it is with the signed difference.
+-- A difference is cut off at 0, which changes nothing: Signed.antt has the formula in signed numbers, and law `supply-signed` says that both agree.
 -- Assumes nothing.
 use Prim.Native.Nat.{ℕ, _+_, _-_, _*_, max, _≤_}
 use mathlib.Core.Logic.{_↔_}

@@ -1,4 +1,4 @@
--- `inquiries::name` meets its contract: the bytes of the stretch.
+-- `inquiries::name` meets its contract: the stretch of the name, as that part of the file.
 -- Assumes nothing.
 use mathlib.Core.Path.{_∙_}
 use borrow.Author.Needs.{needs}
@@ -8,11 +8,13 @@ use Rattle.inquiries.proofs.name.Tie as tie
 name-stretch-requires : tie.Need-name-stretch-requires
 name-stretch-requires c κs = search needs
 
-bytes-requires : tie.Need-bytes-requires
-bytes-requires c κs = search needs
+part-of-requires : tie.Need-part-of-requires
+part-of-requires c κs = search needs
 
 returns : tie.Need-returns
-returns c = c .bytes .ensures ∙ c .before .before .name-stretch .ensures .bytes
+returns c =
+    let n = c .before .before .name-stretch .ensures in
+    record { bytes = c .part-of .ensures .bytes ∙ n .bytes; stretch = rw (n .is) at (c .part-of .ensures) }
 
 pub name-spec : {M : Type 1} → statement M
-name-spec = tie.close (tie.spec name-stretch-requires bytes-requires returns)
+name-spec = tie.close (tie.spec name-stretch-requires part-of-requires returns)
