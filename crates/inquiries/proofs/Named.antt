@@ -1,16 +1,14 @@
 -- The name of a part, from what the reader hands on.
 -- Assumes nothing.
-use Prim.Native.Nat.{ℕ, zero, suc, _+_, _-_, _≤_, _<_}
+use Prim.Native.Nat.{ℕ, zero, suc, _-_, _≤_, _<_}
 use native.Mathlib.Omega.{arith}
-use native.Mathlib.Decide.{decLe}
 use mathlib.Core.Path.{_≡_, refl, sym, ap, _∙_}
 use mathlib.Core.Bool.{true, false, _&&_}
 use mathlib.Core.List.{List}
 use borrow.Author.Tests.{leb-true}
 use lib.Dec.{leb}
-use lib.ListN.{length, take, getD}
+use lib.ListN.{take, getD}
 use lib.Seq.{getD-take}
-use denote.Ref.{RefT}
 use Rattle.least.specs.Lists.{nthOr}
 use Rattle.least.proofs.Lists.{nth-get, nth-of-map, and-iff}
 use Rattle.least.proofs.Members.{getD-any}
@@ -21,7 +19,6 @@ use Rattle.refusal.specs.Questions.{Answer, outcomeOf, whenAnswered, whenDone, 
 use Rattle.refusal.specs.Questions.Answer.{answered, refused}
 use Rattle.scan.specs.declared.Span.{Span}
 use Rattle.scan.specs.Scan.{bytesOf}
-use Rattle.scan.proofs.Stretch.{bytes-past}
 use Rattle.plan_file.specs.Above.{noPart}
 use Rattle.plan_file.specs.Reading.{readFile}
 use Rattle.plan_file.specs.Entries.{noSpan}
@@ -31,7 +28,7 @@ use Rattle.reader.specs.declared.PlanFile.{PlanFile}
 use Rattle.reader.specs.Reader.{ReadPart, blankPart, asRead, partOf, ReadIs}
 use Rattle.reader.proofs.Handed.{Handed, part-handed}
 use Rattle.answers.specs.Answers.{isPartNumber, nameOf, nameBytes}
-use Rattle.inquiries.specs.Stretch.{noName, stretched, nameStretch, StretchIs, PartOf}
+use Rattle.inquiries.specs.Stretch.{noName, stretched, nameStretch, StretchIs}
 
 pub name-refused : (s : List ℕ) (k : ℕ) (r : Refusal) → readFile s ≡ refused r → nameOf s k ≡ refused r
 unfolding nameOf whenAnswered
@@ -89,11 +86,3 @@ stretch-outcome s k = go (nameOf s k) (nthOr noSpan k (nameSpans s))
     go : (a : Answer (List ℕ)) (p : Span) → stretched a p .outcome ≡ outcomeOf a
     go (answered name) p = refl
     go (refused r) p = refl
-
--- a part that has a byte begins where its stretch does
-pub part-from-start : (s : RefT (List ℕ)) (p : Span) (r : RefT (List ℕ)) → PartOf s p r → 1 ≤ length (r .now) → r .ptr .1 ≡ s .ptr .1 + p .start
-part-from-start s p r is some = go (decLe (length (s .now)) (p .start))
-  where
-    go : Dec (length (s .now) ≤ p .start) → r .ptr .1 ≡ s .ptr .1 + p .start
-    go (yes h) = absurd (omega (arith, some, ap length (is .bytes), ap length (bytes-past (s .now) p h)))
-    go (no h) = omega (arith, is .offset)

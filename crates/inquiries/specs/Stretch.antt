@@ -3,13 +3,11 @@
 --   stretched a p   == the answer a as it is handed over: with the stretch p, or with none on refusal
 --   nameStretch s k == the name of part k in the file s, as the stretch of its `part` line
 --   StretchIs s k r == r is that, and the bytes of the stretch are the name's
---   PartOf s p r    == r is the stretch p of the lent slice s itself: not bytes like it elsewhere
 --   NameIs s k r    == r is the name of part k as that stretch of the lent file s
 -- Assumes nothing.
-use Prim.Native.Nat.{ℕ, _+_, min}
+use Prim.Native.Nat.{ℕ}
 use mathlib.Core.Path.{_≡_}
 use mathlib.Core.List.{List}
-use lib.ListN.{length}
 use denote.Ref.{RefT}
 use Rattle.least.specs.Lists.{nthOr}
 use Rattle.refusal.specs.declared.Refusal.{Refusal}
@@ -18,6 +16,7 @@ use Rattle.refusal.specs.Questions.{Answer}
 use Rattle.refusal.specs.Questions.Answer.{answered, refused}
 use Rattle.scan.specs.declared.Span.{Span}
 use Rattle.scan.specs.Scan.{bytesOf}
+use Rattle.scan.specs.Stretch.{StretchOf}
 use Rattle.plan_file.specs.Entries.{noSpan}
 use Rattle.plan_file.specs.Stretches.{nameSpans}
 use Rattle.answers.specs.Answers.{nameOf, nameBytes}
@@ -37,12 +36,6 @@ pub record StretchIs (s : List ℕ) (k : ℕ) (r : NameStretch) : Type 0 where
   pub is : r ≡ nameStretch s k
   pub bytes : bytesOf s (r .span) ≡ nameBytes (nameOf s k)
 
--- A reference has a block of memory and an offset in it (`ptr`), and what is there (`now`).
-pub record PartOf (s : RefT (List ℕ)) (p : Span) (r : RefT (List ℕ)) : Type 0 where
-  pub block : r .ptr .0 ≡ s .ptr .0
-  pub offset : r .ptr .1 ≡ s .ptr .1 + min (p .start) (length (s .now))
-  pub bytes : r .now ≡ bytesOf (s .now) p
-
 pub record NameIs (s : RefT (List ℕ)) (k : ℕ) (r : RefT (List ℕ)) : Type 0 where
   pub bytes : r .now ≡ nameBytes (nameOf (s .now) k)
-  pub stretch : PartOf s (nameStretch (s .now) k .span) r
+  pub stretch : StretchOf s (nameStretch (s .now) k .span) r

@@ -11,7 +11,7 @@ ghost use lib.Dec.{leb};
 ghost use Rattle.refusal.specs.Questions.{outcomeOf};
 ghost use Rattle.refusal.specs.Questions.Answer.{refused};
 ghost use Rattle.answers.specs.Answers.{candidatesOf, candidateList, nameOf};
-ghost use Rattle.inquiries.specs.Stretch.{noName, StretchIs, PartOf, NameIs};
+ghost use Rattle.inquiries.specs.Stretch.{noName, StretchIs, NameIs};
 
 // Whether a number, counted from 1, is that of one of n parts.
 fn is_part_number(part: usize, n: usize) -> bool
@@ -70,29 +70,13 @@ pub fn name_outcome(file: &[u8], part: usize) -> Outcome
     o
 }
 
-// A stretch of a file, as that part of it; what the file has of it, where it runs past the end.
-fn part_of(file: &[u8], p: Span) -> &[u8]
-    ensures { λ r. ⌜ PartOf (file .entry) p r ⌝ }
-{
-    let start = p.start;
-    let len = p.len;
-    if file.len() <= start {
-        let end = file.len();
-        return &file[end..];
-    }
-    if file.len() - start <= len {
-        return &file[start..];
-    }
-    &file[start..start + len]
-}
-
 // The name of a part, counted from 1, as that stretch of the file; empty on refusal.
 pub fn name(file: &[u8], part: usize) -> &[u8]
     ensures { λ r. ⌜ NameIs (file .entry) part r ⌝ }
 {
     let n = name_stretch(file, part);
     let span = n.span;
-    part_of(file, span)
+    scan::stretch_of(file, span)
 }
 
 fn refused_list(r: Refusal) -> CandidateList

@@ -32,7 +32,7 @@ use Rattle.answers.specs.Answers.{planned, isPartNumber, candidatesOf, candidat
 use Rattle.answers.specs.Choice.{Budgeted}
 use Rattle.inquiries.specs.Stretch.{noName, stretched, nameStretch}
 use Rattle.planner.specs.Refusals.{PartOf, SupplyFits}
-use Rattle.planner.specs.Numbers.{KeptIs, NameIs, notWeighed, EveryNumber}
+use Rattle.planner.specs.Numbers.{KeptIs, NameAt, notWeighed, EveryNumber}
 use Rattle.planner.proofs.Local.{candidates-kept}
 use Rattle.planner.proofs.Weighing.{weighed-outcome, weighOf-is}
 use Rattle.planner.proofs.KeptList.{kept-is, no-budget-iff, some-budget}
@@ -97,7 +97,7 @@ module _ (s : List ℕ) (k : ℕ) where
     unfolding nameBytes
     name-bytes = ap nameBytes name-given
 
-    name-is : NameIs s k p (nameStretch s k)
+    name-is : NameAt s k p (nameStretch s k)
     unfolding nameStretch stretched
     name-is = rw name-given (record { done = refl; span = refl; bytes = name-stretch s (d .parts) k (d .readable) ∙ ap (λ (q : FilePart). q .name) (d .is) })
 

@@ -1,7 +1,7 @@
 -- Demand 2, its half about numbers: what every number of an answer is, by the paper's sentence. The holding times, blockings and budgets of the kept
 -- pairs are in LocalTest; what a plan prints is demand 3.
 --   KeptIs p a      == a has the kept pairs of the part p, in falling X, up to 121, and their count
---   NameIs s k p n  == n is the stretch of the name of part k, which is p, on its `part` line
+--   NameAt s k p n  == n is the stretch of the name of part k, which is p, on its `part` line
 --   EveryNumber     == the numbers of the five operations, answered and refused
 -- Assumes nothing.
 use Prim.Native.Nat.{ℕ, _≤_, _<_}
@@ -49,7 +49,7 @@ pub record KeptIs (p : FilePart) (a : Kept) : Type 0 where
   -- in their places, and unused places are zero
   pub pairs : a .pairs ≡ pad 121 (pair 0 0) list
 
-pub record NameIs (s : List ℕ) (k : ℕ) (p : FilePart) (n : NameStretch) : Type 0 where
+pub record NameAt (s : List ℕ) (k : ℕ) (p : FilePart) (n : NameStretch) : Type 0 where
   pub done : n .outcome ≡ Done
   -- the stretch on the k-th `part` line
   pub span : n .span ≡ nthOr noSpan k (nameSpans s)
@@ -71,7 +71,7 @@ pub record EveryNumber : Type 0 where
   pub kept : (s : List ℕ) (k : ℕ) (p : FilePart) → PartOf s k p → KeptIs p (candidateList (candidatesOf s k) .kept)
   -- the name of a part is handed back as that stretch of the caller's own file
   pub name : (s : List ℕ) (k : ℕ) (p : FilePart) → PartOf s k p → nameBytes (nameOf s k) ≡ p .name
-  pub stretch : (s : List ℕ) (k : ℕ) (p : FilePart) → PartOf s k p → NameIs s k p (nameStretch s k)
+  pub stretch : (s : List ℕ) (k : ℕ) (p : FilePart) → PartOf s k p → NameAt s k p (nameStretch s k)
   -- a plan counts the bytes it wrote
   pub plan : (s : List ℕ) (room : ℕ) (text : List ℕ) → planOf s room ≡ answered text → planned (planOf s room) ≡ record { outcome = Done; written = length text }
   -- a refusal consists of its number and its place, with every other number of the answer zero

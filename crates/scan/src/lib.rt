@@ -4,6 +4,7 @@ ghost use mathlib.Core.List.{[]};
 ghost use mathlib.Core.Bool.{_&&_};
 ghost use lib.Dec.{leb};
 ghost use Rattle.scan.specs.Scan.{bytesOf, firstFive, markOf, lineAt};
+ghost use Rattle.scan.specs.Stretch.{StretchOf};
 
 // A stretch of the file.
 pub struct Span {
@@ -24,19 +25,27 @@ pub struct Scanned {
     pub tabs: Tabs,
 }
 
-// The bytes of a stretch; those that the file has, where it runs past the end.
-pub fn bytes(s: &[u8], p: Span) -> &[u8]
-    ensures { λ r. ⌜ now r ≡ bytesOf (now (s .entry)) p ⌝ }
+// A stretch of a lent slice, as that part of it; what the slice has of it, where it runs past the end.
+pub fn stretch_of(s: &[u8], p: Span) -> &[u8]
+    ensures { λ r. ⌜ StretchOf (s .entry) p r ⌝ }
 {
     let start = p.start;
     let len = p.len;
     if s.len() <= start {
-        return &s[..0];
+        let end = s.len();
+        return &s[end..];
     }
     if s.len() - start <= len {
         return &s[start..];
     }
     &s[start..start + len]
+}
+
+// The bytes of a stretch.
+pub fn bytes(s: &[u8], p: Span) -> &[u8]
+    ensures { λ r. ⌜ now r ≡ bytesOf (now (s .entry)) p ⌝ }
+{
+    stretch_of(s, p)
 }
 
 // Bytes 33 to 126.

@@ -1,13 +1,13 @@
--- `inquiries::part_of` meets its contract: each of its three answers is a part of the file, from the start of the stretch or from the end of the file on.
+-- `scan::stretch_of` meets its contract: each of its three answers is a part of the slice, from the start of the stretch or from the end of the slice on.
 -- Assumes nothing.
 use native.Mathlib.Nat.{add-sub-cancel-left, sub-self}
 use native.Mathlib.Omega.{arith}
 use mathlib.Core.Path.{refl}
 use Rattle.scan.specs.Scan.{bytesOf}
 use Rattle.scan.proofs.Stretch.{bytes-past, bytes-over}
 use borrow.Author.Needs.{needs}
-use Rattle.inquiries.proofs.part_of.Statement.{statement}
-use Rattle.inquiries.proofs.part_of.Tie as tie
+use Rattle.scan.proofs.stretch_of.Statement.{statement}
+use Rattle.scan.proofs.stretch_of.Tie as tie
 
 sub-result : tie.Need-sub-result
 sub-result c = search needs
@@ -52,8 +52,8 @@ returns-3 : tie.Need-returns-3
 unfolding bytesOf
 returns-3 c = record { block = refl; offset = omega arith; bytes = rw add-sub-cancel-left }
 
-pub part-of-spec : {M : Type 1} → statement M
-part-of-spec =
+pub stretch-of-spec : {M : Type 1} → statement M
+stretch-of-spec =
     tie.close
     (tie.spec
     sub-result
