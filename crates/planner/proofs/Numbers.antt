@@ -17,7 +17,10 @@ use Rattle.refusal.specs.Limits.{rowLimit}
 use Rattle.refusal.specs.Questions.{ask, Answer, firstNo, whenDone}
 use Rattle.refusal.specs.Questions.Answer.{answered, refused}
 use Rattle.refusal.proofs.Answers.{done-not-refused}
+use lib.IntN.{pos}
 use Rattle.supply.specs.Supply.{supplyOf}
+use Rattle.supply.specs.Signed.{signedSupply}
+use Rattle.supply.proofs.SupplySigned.{supply-signed}
 use Rattle.task_set.specs.Blocking.{Setting}
 use Rattle.candidates.specs.declared.Pair.{Pair}
 use Rattle.candidates.specs.Candidates.{pair, keptAnswer}
@@ -39,9 +42,9 @@ use Rattle.planner.proofs.KeptList.{kept-is, no-budget-iff, some-budget
 use Rattle.planner.proofs.Names.{name-stretch}
 use Rattle.planner.proofs.Refusals.{number-iff, candidates-read, candidates-unread, name-read, supply-fits-iff}
 
-supply-is : (P Q t : ℕ) → SupplyFits P Q t → supplied (supplyAnswer P Q t) ≡ record { outcome = Done; ticks = supplyOf P Q t }
+supply-is : (P Q t : ℕ) → SupplyFits P Q t → (x : ℕ) × (supplied (supplyAnswer P Q t) ≡ record { outcome = Done; ticks = x }) × (signedSupply (pos P) (pos Q) (pos t) ≡ pos x)
 unfolding supplied supplyAnswer whenDone firstNo
-supply-is P Q t f = rw (supply-fits-iff P Q t .1 f) refl
+supply-is P Q t f = (supplyOf P Q t, rw (supply-fits-iff P Q t .1 f) refl, supply-signed P Q t (f .budget-some) (f .budget-most))
 
 module _ (s : List ℕ) (k : ℕ) where
   reads : {p : FilePart} (d : PartOf s k p) → readFile s ≡ answered (d .parts)

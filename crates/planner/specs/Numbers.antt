@@ -9,13 +9,14 @@ use mathlib.Core.Path.{_≡_}
 use mathlib.Core.Logic.{_↔_}
 use mathlib.Core.List.{List, [], List·Memᴰ}
 use lib.ListN.{length, replicate}
+use lib.IntN.{pos}
 use Rattle.least.specs.Lists.{nthOr, pad}
 use Rattle.least.specs.Fraction.{frac}
 use Rattle.refusal.specs.declared.Refusal.{Refusal}
 use Rattle.refusal.specs.declared.Outcome.the-variants.{Done, Refused}
 use Rattle.refusal.specs.Limits.{rowLimit}
 use Rattle.refusal.specs.Questions.Answer.{answered, refused}
-use Rattle.supply.specs.Supply.{supplyOf}
+use Rattle.supply.specs.Signed.{signedSupply}
 use Rattle.scan.specs.Scan.{bytesOf}
 use Rattle.task_set.specs.Blocking.{Setting}
 use Rattle.candidates.specs.declared.Pair.{Pair}
@@ -61,8 +62,8 @@ abbrev pub notWeighed : Refusal → Weighed
 notWeighed r = record { outcome = Refused r; bounds = replicate rowLimit (frac 0 0); load = frac 0 0; row = 0 }
 
 pub record EveryNumber : Type 0 where
-  -- the supply of (P,Q) in t ticks
-  pub supply : (P Q t : ℕ) → SupplyFits P Q t → supplied (supplyAnswer P Q t) ≡ record { outcome = Done; ticks = supplyOf P Q t }
+  -- the supply of (P,Q) in t ticks, by the paper's formula in signed numbers
+  pub supply : (P Q t : ℕ) → SupplyFits P Q t → (x : ℕ) × (supplied (supplyAnswer P Q t) ≡ record { outcome = Done; ticks = x }) × (signedSupply (pos P) (pos Q) (pos t) ≡ pos x)
   -- weighing gives every row's bound and the load
   pub weigh : (rows : List Row) → weighOf rows .outcome ≡ Done → WeighedIs rows (weighOf rows)
   -- candidates are answered exactly if some permitted setting of the part has a budget
