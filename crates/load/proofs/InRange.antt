@@ -1,5 +1,4 @@
 -- The rows that question 12 lets pass.
---   RowFits r == 1 ≤ Q ≤ P ≤ 65,535 and X ≤ 65,535
 -- Assumes nothing.
 use Prim.Native.Nat.{ℕ, _-_, _≤_, _<_}
 use native.Mathlib.Omega.{arith}
@@ -12,21 +11,14 @@ use Rattle.least.specs.Lists.{firstOf}
 use Rattle.least.proofs.Lists.{and-iff, every-member}
 use Rattle.least.proofs.Members.{getD-member}
 use Rattle.least.proofs.First.{first-every}
-use Rattle.refusal.specs.Limits.{numberLimit}
 use Rattle.load.specs.declared.Row.{Row}
 use Rattle.load.specs.declared.Rows.{Rows}
 use Rattle.load.specs.declared.RowColumns.{RowColumns}
 use Rattle.load.specs.Load.{rowSum}
-use Rattle.load.specs.Weigh.{rowInRange, rowsOf}
+use Rattle.load.specs.Weigh.{RowFits, rowInRange, rowsOf}
 use Rattle.load.specs.ByColumn.{rowAt, rowsBy, FineColumns}
 use Rattle.load.specs.Code.{noRow, FineRow, FineRows, ColumnsAre, InRange}
 use Rattle.load.proofs.RowsBy.{rows-length, rows-get}
-
-pub record RowFits (r : Row) : Type 0 where
-  pub budget-some : 1 ≤ r .budget
-  pub budget-most : r .budget ≤ r .period
-  pub period-most : r .period ≤ numberLimit
-  pub holding-most : r .holding ≤ numberLimit
 
 pub fits-in-range : (r : Row) → RowFits r → rowInRange r ≡ true
 unfolding rowInRange

@@ -1,5 +1,6 @@
 -- Weighing rows that were set by hand: questions 12 and 13, then every row's bound and the load.
---   rowInRange r == 1 ≤ Q ≤ P ≤ 65,535 and X ≤ 65,535
+--   RowFits r    == 1 ≤ Q ≤ P ≤ 65,535 and X ≤ 65,535
+--   rowInRange r == its test
 --   weighQuestions rows == questions 12 (0 for a wrong row count, else the first bad row) and 13 (first row without a time t)
 --   weighOf rows == the answer, for every list of rows
 --   rowsOf rows  == the rows that the struct `Rows` holds
@@ -7,7 +8,7 @@
 --   structQuestions rows == the questions of such a struct: a count above its sixteen places is a wrong row count too
 --   weighRows rows == the answer, for every such struct
 -- Assumes nothing.
-use Prim.Native.Nat.{ℕ}
+use Prim.Native.Nat.{ℕ, _≤_}
 use mathlib.Core.Bool.{Bool, not, _&&_}
 use mathlib.Core.List.{List, [], _∷_}
 use lib.Dec.{leb}
@@ -24,6 +25,12 @@ use Rattle.load.specs.declared.Row.{Row}
 use Rattle.load.specs.declared.Rows.{Rows}
 use Rattle.load.specs.declared.Weighed.{Weighed}
 use Rattle.load.specs.Load.{row, boundsOf, loadOf, loadRow}
+
+pub record RowFits (r : Row) : Type 0 where
+  pub budget-some : 1 ≤ r .budget
+  pub budget-most : r .budget ≤ r .period
+  pub period-most : r .period ≤ numberLimit
+  pub holding-most : r .holding ≤ numberLimit
 
 unfoldable pub rowInRange : Row → Bool
 rowInRange r = leb 1 (r .budget) && (leb (r .budget) (r .period) && (leb (r .period) numberLimit && leb (r .holding) numberLimit))

@@ -29,10 +29,10 @@ use Rattle.refusal.proofs.Answers.{done-not-refused}
 use Rattle.load.specs.declared.Row.{Row}
 use Rattle.load.specs.declared.Weighed.{Weighed}
 use Rattle.load.specs.Load.{row, loadAt, boundOf, boundsOf, loadRow}
-use Rattle.load.specs.Weigh.{rowInRange, hasTime, weighQuestions, weighed, weighOf}
+use Rattle.load.specs.Weigh.{RowFits, rowInRange, hasTime, weighQuestions, weighed, weighOf}
 use Rattle.load.proofs.InRange.{fits-in-range, in-range-fits}
 use Rattle.load.proofs.Load.{bound-paper, rowPasses-paper, bound-finite, boundsOf-length, load-greatest, loadRow-first}
-use Rattle.planner.specs.Weighing.{rowAt, L, TimeOf, RowFits, CountFits, BadRowAt, NoTimeAt, BoundIs, boundAt, WeighedIs}
+use Rattle.planner.specs.Weighing.{rowAt, L, TimeOf, CountFits, BadRowAt, NoTimeAt, BoundIs, boundAt, WeighedIs}
 use Rattle.planner.proofs.Reversed.{loadAt-reverse}
 
 -- elements by number, from 1
@@ -124,10 +124,7 @@ weighed-outcome Done rows = refl
 weighed-outcome (Refused r) rows = refl
 
 fits-iff : (r : Row) → (rowInRange r ≡ true) ↔ RowFits r
-fits-iff r = (
-  (λ e. let f = in-range-fits r e in record { budget-some = f .budget-some; budget-most = f .budget-most; period-most = f .period-most; holding-most = f .holding-most }),
-  (λ f. fits-in-range r (record { budget-some = f .budget-some; budget-most = f .budget-most; period-most = f .period-most; holding-most = f .holding-most })),
-)
+fits-iff r = (in-range-fits r, fits-in-range r)
 
 -- a test that decides a statement
 pub not-iff : {S : Type 0} (b : Bool) → (b ≡ true) ↔ S → (b ≡ false) ↔ (S → ⊥)

@@ -1,7 +1,6 @@
 -- Weighing in the paper's words, over every row number and every time.
 --   L rows i t       == L(t) of row i: its Q+X, plus Σ ⌈t/P_k⌉×(Q_k+X_k) over the rows after it, plus the greatest X of the rows before it
 --   TimeOf rows i t  == 1 ≤ t ≤ P of row i, and L(t) ≤ t
---   RowFits r        == 1 ≤ Q ≤ P ≤ 65,535 and X ≤ 65,535
 --   CountFits rows   == there are 1 to 16 rows
 --   BadRowAt rows j  == their count fits, and row j is the first that does not fit
 --   NoTimeAt rows j  == their count and every row fit, and row j is the first without a time t
@@ -16,10 +15,11 @@ use Rattle.least.specs.declared.Frac.{Frac}
 use Rattle.least.specs.Lists.{nthOr}
 use Rattle.least.specs.Fraction.{frac, _⊑_, _⊏_}
 use Rattle.refusal.specs.declared.Outcome.the-variants.{Done}
-use Rattle.refusal.specs.Limits.{numberLimit, rowLimit}
+use Rattle.refusal.specs.Limits.{rowLimit}
 use Rattle.load.specs.declared.Row.{Row}
 use Rattle.load.specs.declared.Weighed.{Weighed}
 use Rattle.load.specs.Load.{row, loadAt}
+use Rattle.load.specs.Weigh.{RowFits}
 
 -- row i, counted from 1
 abbrev pub rowAt : List Row → ℕ → Row
@@ -32,12 +32,6 @@ pub record TimeOf (rows : List Row) (i t : ℕ) : Type 0 where
   pub from : 1 ≤ t
   pub to : t ≤ rowAt rows i .period
   pub served : L rows i t ≤ t
-
-pub record RowFits (r : Row) : Type 0 where
-  pub budget-some : 1 ≤ r .budget
-  pub budget-most : r .budget ≤ r .period
-  pub period-most : r .period ≤ numberLimit
-  pub holding-most : r .holding ≤ numberLimit
 
 pub record CountFits (rows : List Row) : Type 0 where
   pub some : 1 ≤ length rows
