@@ -19,6 +19,7 @@ THEOREMS = [
     ('planner', 'demand-1', 'Demand1 PlanAnswered'),
     ('planner', 'demand-2', 'Demand2'),
     ('planner', 'demand-3', 'Demand3 PlanAnswered'),
+    ('planner', 'demand-3-in-words', 'Demand3InWords PlanAnswered'),
     ('planner', 'nothing-free', 'NothingFree'),
     ('examples', 'examples', 'AllHold table'),
     ('examples', 'all-shut-out', 'AllShutOut'),

@@ -7,7 +7,7 @@
 use Prim.Native.Nat.{ℕ, _+_, _<_}
 use Prim.Native.String.{String}
 use mathlib.Core.Path.{_≡_}
-use mathlib.Core.Bool.{Bool, true, false}
+use mathlib.Core.Bool.{Bool, false}
 use mathlib.Core.List.{List, [], _∷_}
 use Rattle.least.specs.declared.Frac.{Frac}
 use Rattle.least.specs.Lists.{nthOr, some, pad}

@@ -1,28 +1,33 @@
--- The wrong planners of paper 01, (c), each by what it does, whatever else it does; and that demand 3 shuts them out.
+-- The wrong planners of paper 01, (c), each by what it does with readable files, whatever else it does; and that demand 3 shuts them out. The sixth of
+-- (c), a kept count not equal to the list, is no planner: `KeptIs` of the crate planner says what the count is.
 --   Run            == what an operation that plans hands back: its result, and the lent bytes after it
 --   Planner        == such an operation: a run for every file and all lent bytes
 --   Does planner   == all that the planner can promise: its own result and bytes
---   AnswersEleven  == it answers 11 to every file
---   PrintsA        == it prints A's listing for all files
+--   AnswersEleven  == it answers 11 to every readable file
+--   PrintsA        == it prints A's listing for all readable files
 --   LeavesBlank    == it returns with the buffer blank, where it was blank before
 --   TopAfterFirst  == it puts top ceilings in all parts but the first
---   StopsAtFirst   == it says "none passes" where the first choice does not pass
+--   StopsAtFirst   == it says "none passes" where every part has a kept pair, and the choice of the first ones does not pass
 --   ShutOut Kind   == no planner of this kind meets demand 3
 -- Assumes nothing.
 use Prim.Native.Nat.{ℕ, _≤_}
 use mathlib.Core.Path.{_≡_}
-use mathlib.Core.Bool.{false}
+use mathlib.Core.Logic.{_⊎_}
+use mathlib.Core.Bool.{true, false, not}
 use mathlib.Core.List.{List, map}
 use lib.ListN.{length, take, drop, replicate}
-use Rattle.least.specs.Lists.{nthOr}
+use Rattle.least.specs.Lists.{isEmpty, every, nthOr}
 use Rattle.least.specs.Each.{Each}
 use Rattle.refusal.specs.declared.Refusal.the-variants.{NoChoice}
 use Rattle.refusal.specs.declared.Outcome.the-variants.{Refused}
 use Rattle.refusal.specs.Questions.Answer.{answered}
+use Rattle.task_set.specs.Blocking.{Setting}
+use Rattle.holding.specs.Holding.{holdingTimeOf}
+use Rattle.candidates.specs.Candidates.{shownCeiling}
 use Rattle.load.specs.declared.Row.{Row}
 use Rattle.load.specs.Load.{row, passesSystem}
 use Rattle.plan_file.specs.Above.{FilePart, lockNames}
-use Rattle.plan_file.specs.Numbers.{tasksIn}
+use Rattle.plan_file.specs.Numbers.{lockCount, tasksIn}
 use Rattle.plan_file.specs.Reading.{readFile}
 use Rattle.listing.specs.Listing.{Share, ceilingsUnder, listingOf}
 use Rattle.answers.specs.declared.Planned.{Planned}
@@ -42,17 +47,23 @@ abbrev pub Does : Planner → List ℕ → List ℕ → Planned → List ℕ →
 Does planner s before r after = (r ≡ planner s before .result) × (after ≡ planner s before .bytes)
 
 abbrev pub AnswersEleven : Planner → Type 0
-AnswersEleven planner = (s before : List ℕ) → planner s before .result .outcome ≡ Refused NoChoice
+AnswersEleven planner = (s before : List ℕ) (ps : List FilePart) → readFile s ≡ answered ps → planner s before .result .outcome ≡ Refused NoChoice
 
 abbrev pub PrintsA : Planner → Type 0
-PrintsA planner = (s before : List ℕ) → length listingA ≤ length before → take (length listingA) (planner s before .bytes) ≡ listingA
+PrintsA planner = (s before : List ℕ) (ps : List FilePart) → readFile s ≡ answered ps → length listingA ≤ length before → take (length listingA) (planner s before .bytes) ≡ listingA
 
 abbrev pub LeavesBlank : Planner → Type 0
-LeavesBlank planner = (s : List ℕ) (room : ℕ) → planner s (replicate room 0) .bytes ≡ replicate room 0
+LeavesBlank planner = (s : List ℕ) (room : ℕ) (ps : List FilePart) → readFile s ≡ answered ps → planner s (replicate room 0) .bytes ≡ replicate room 0
 
--- every lock of the part is printed with the number of its highest task
+-- every lock at the top: the number of the highest task
+abbrev pub topSetting : FilePart → Setting
+topSetting p l = length (tasksIn p)
+
+-- what is printed of the part are its top ceilings, or the ceilings shown for their X
 abbrev pub AtTop : FilePart → Share → Type 0
-AtTop p s = s .ceilings ≡ ceilingsUnder (λ l. length (tasksIn p)) 1 (lockNames p)
+AtTop p s =
+    let X = holdingTimeOf (tasksIn p) (lockCount p) (topSetting p) in
+    (s .ceilings ≡ ceilingsUnder (topSetting p) 1 (lockNames p)) ⊎ (s .ceilings ≡ ceilingsUnder (shownCeiling (tasksIn p) X) 1 (lockNames p))
 
 abbrev pub TopAfterFirst : Planner → Type 0
 TopAfterFirst planner =
@@ -66,7 +77,7 @@ firstChoice ps = map (λ p. nthOr (row 0 0 0) 1 (keptRows p)) ps
 
 abbrev pub StopsAtFirst : Planner → Type 0
 StopsAtFirst planner =
-    (s before : List ℕ) (ps : List FilePart) → readFile s ≡ answered ps → passesSystem (firstChoice ps) ≡ false → planner s before .result .outcome ≡ Refused NoChoice
+    (s before : List ℕ) (ps : List FilePart) → readFile s ≡ answered ps → every (λ p. not (isEmpty (keptRows p))) ps ≡ true → passesSystem (firstChoice ps) ≡ false → planner s before .result .outcome ≡ Refused NoChoice
 
 abbrev pub ShutOut : (Planner → Type 0) → Type 0
 ShutOut Kind = (planner : Planner) → Kind planner → Demand3 (Does planner) → ⊥

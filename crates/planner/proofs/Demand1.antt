@@ -81,6 +81,7 @@ pub demand-1 : Demand1 PlanAnswered
 unfolding weighQuestions structQuestions
 demand-1 = record {
   plan = λ s before r after h. complete-or-refused s before r after (planOf s (length before)) refl h;
+  unread = λ s before r after x h d. subst (λ (a : Answer (List ℕ)). HandedOver a before r after) (plan-unread s x (read-refused-iff s x .1 d) (length before)) h;
   untouched = λ s before r after x h e. refused-untouched s before r after (planOf s (length before)) x h e;
   others = λ s before r after h. others-untouched s before r after (planOf s (length before)) h;
   candidates = λ s k r e. numbered (λ parts f. first-of-two _ _ r f) (every-refusal .candidates s k r .0 e);

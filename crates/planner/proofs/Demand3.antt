@@ -2,7 +2,7 @@
 -- Assumes nothing.
 use Prim.Native.Nat.{ℕ, _≤_}
 use native.Mathlib.Omega.{arith}
-use mathlib.Core.Path.{_≡_, refl, sym, ap, subst, _∙_}
+use mathlib.Core.Path.{_≡_, refl, sym, ap, _∙_}
 use mathlib.Core.Bool.{Bool, true, false, cond}
 use mathlib.Core.List.{List, [], _∷_, map}
 use borrow.Author.Tests.{leb-true, leb-false}
@@ -14,7 +14,6 @@ use Rattle.least.specs.Each.{Each}
 use Rattle.least.specs.Each.Each.{none, more}
 use Rattle.least.specs.Fraction.{_⊑_}
 use Rattle.refusal.specs.declared.Refusal.the-variants.{NoRoom}
-use Rattle.refusal.specs.Questions.{Answer}
 use Rattle.refusal.specs.Questions.Answer.{answered, refused}
 use Rattle.load.specs.declared.Row.{Row}
 use Rattle.load.specs.Load.{boundsOf, loadOf, passesSystem}
@@ -27,7 +26,7 @@ use Rattle.answers.specs.Answers.{planRows, planText, planParts, planOf, PlanAn
 use Rattle.answers.specs.Choice.{rowUnder, FromKept}
 use Rattle.answers.proofs.KeptRows.{each-of-map, some-kept, shown-passes, shown-row}
 use Rattle.answers.proofs.PlanRows.{shares-rows, shares-bounds, everyKept, keptChoices, leastRows, text, empty-at, each-chosen, first-empty, none-chosen, no-passing-choice, leastRows-kept, leastRows-passes, leastRows-least, leastRows-greatest, refused-10, refused-11, planned-or-14, plan-parts}
-use Rattle.planner.specs.Demand3.{rowsOf, PrintedShare, Printed, NoBudgetAt, Demanded, Demand3}
+use Rattle.planner.specs.Demand3.{printedRows, PrintedShare, Printed, NoBudgetAt, Demanded, Demand3}
 use Rattle.planner.specs.Demand3.NoneToPlan.{ten, eleven}
 use Rattle.planner.specs.Demand3.Demanded.{none-passes, fits, too-long}
 
@@ -58,10 +57,10 @@ module _ (ps : List FilePart) where
     abbrev shares : List Share
     shares = sharesOf ps (leastRows ps) (boundsOf (leastRows ps))
 
-    rows-are : rowsOf shares ≡ leastRows ps
+    rows-are : printedRows shares ≡ leastRows ps
     rows-are = shares-rows (boundsOf (leastRows ps)) (leastRows-kept ps e) (boundsOf-length (leastRows ps))
 
-    shares-greatest : (rs : List Row) → Each FromKept ps rs → loadOf rs ⊑ loadOf (rowsOf shares) → Each (λ s r. r .holding ≤ s .row .holding) shares rs
+    shares-greatest : (rs : List Row) → Each FromKept ps rs → loadOf rs ⊑ loadOf (printedRows shares) → Each (λ s r. r .holding ≤ s .row .holding) shares rs
     shares-greatest rs k h =
         each-of-map (λ s. s .row) shares (rw rows-are (leastRows-greatest ps e rs k (rw rows-are at h)))
 

@@ -1,32 +1,35 @@
--- What `Demand3` says of an operation, in the demand's own words: refused with 10 or 11 exactly when no choice passes; if one passes, planned exactly when its listing fits.
+-- What `Demand3` says of an operation, sentence by sentence: refused with 10 or 11 exactly when no choice passes; if one passes, planned exactly when its listing fits;
+-- and no choice has a smaller load.
 -- Assumes nothing.
 use Prim.Native.Nat.{ℕ, zero, suc, _≤_}
 use native.Mathlib.Omega.{arith}
-use mathlib.Core.Path.{_≡_, refl, sym, ap, _∙_}
-use mathlib.Core.Logic.{_⊎_, inl, inr, _↔_}
+use mathlib.Core.Path.{_≡_, sym, ap, subst, _∙_}
+use mathlib.Core.Logic.{inl, inr, _↔_}
 use mathlib.Core.List.{List}
-use lib.ListN.{length}
+use lib.ListN.{length, take, drop}
+use lib.Seq.{take-append-seam}
 use Rattle.least.specs.Lists.{nthOr}
 use Rattle.least.specs.Each.{Each}
 use Rattle.least.specs.Each.Each.{none, more}
+use Rattle.least.specs.Fraction.{_⊑_}
 use Rattle.refusal.specs.declared.Refusal.{Refusal}
-use Rattle.refusal.specs.declared.Refusal.the-variants.{NoBudget, NoChoice, NoRoom}
+use Rattle.refusal.specs.declared.Refusal.the-variants.{NoRoom}
 use Rattle.refusal.specs.declared.Outcome.the-variants.{Done, Refused}
 use Rattle.refusal.specs.Number.{refusalNumber}
 use Rattle.refusal.specs.Questions.{Answer, outcomeOf}
 use Rattle.refusal.specs.Questions.Answer.{answered, refused}
 use Rattle.refusal.proofs.Answers.{done-not-refused, outcome-same-refusal}
 use Rattle.load.specs.declared.Row.{Row}
-use Rattle.load.specs.Load.{row}
+use Rattle.load.specs.Load.{row, loadOf}
 use Rattle.plan_file.specs.Above.{FilePart, noPart}
-use Rattle.plan_file.specs.Reading.{readFile}
 use Rattle.listing.specs.Listing.{Share}
 use Rattle.answers.specs.declared.Planned.{Planned}
-use Rattle.answers.specs.Answers.{planned, HandedOver}
+use Rattle.answers.specs.Answers.{planned, bufferAfter, HandedOver, PlanAnswered}
 use Rattle.answers.specs.Choice.{Choice, PassingChoice}
-use Rattle.planner.specs.Demand3.{rowsOf, PrintedShare, Printed, NoneToPlan, Demanded, Demand3}
+use Rattle.planner.specs.Demand3.{printedRows, PrintedShare, Printed, NoneToPlan, Demanded, Demand3, RefusedToPlan, Demand3InWords}
 use Rattle.planner.specs.Demand3.NoneToPlan.{ten, eleven}
 use Rattle.planner.specs.Demand3.Demanded.{none-passes, fits, too-long}
+use Rattle.planner.proofs.Demand3.{demand-3}
 
 each-at : {A B : Type 0} {R : A → B → Type 0} {xs : List A} {ys : List B} (d : A) (e : B) (k : ℕ) → Each R xs ys → 1 ≤ k → k ≤ length xs → R (nthOr d k xs) (nthOr e k ys)
 unfolding nthOr
@@ -43,16 +46,12 @@ none-to-plan (ten {j} n) rs c =
 none-to-plan (eleven each never) rs c = never rs c
 
 -- what is printed is a choice that passes
-printed-choice : {ps : List FilePart} {ss : List Share} → Each PrintedShare ps ss → Choice ps (rowsOf ss)
+printed-choice : {ps : List FilePart} {ss : List Share} → Each PrintedShare ps ss → Choice ps (printedRows ss)
 printed-choice none = none
 printed-choice (more h hs) = more (record { setting = _; budget = _; local = h .local; is = h .is }) (printed-choice hs)
 
-pub printed-passes : {ps : List FilePart} {text : List ℕ} (p : Printed ps text) → PassingChoice ps (rowsOf (p .shares))
+pub printed-passes : {ps : List FilePart} {text : List ℕ} (p : Printed ps text) → PassingChoice ps (printedRows (p .shares))
 printed-passes p = record { choice = printed-choice (p .choice); system = p .system }
-
--- a plan is refused with 10 or 11
-abbrev pub RefusedToPlan : Planned → Type 0
-RefusedToPlan r = ((j : ℕ) × (r .outcome ≡ Refused (NoBudget j))) ⊎ (r .outcome ≡ Refused NoChoice)
 
 none-refused : {ps : List FilePart} {x : Refusal} (r : Planned) → NoneToPlan ps x → r .outcome ≡ Refused x → RefusedToPlan r
 none-refused r (ten {j} n) e = inl (j, e)
@@ -73,22 +72,37 @@ no-room-not-refused-to-plan : (r : Planned) → r .outcome ≡ Refused NoRoom �
 no-room-not-refused-to-plan r e (inl h) = omega (arith, ap refusalNumber (outcome-same-refusal (sym e ∙ h .1)))
 no-room-not-refused-to-plan r e (inr h) = omega (arith, ap refusalNumber (outcome-same-refusal (sym e ∙ h)))
 
-module _ (Promise : List ℕ → List ℕ → Planned → List ℕ → Type 0) (met : Demand3 Promise) (s : List ℕ) (ps : List FilePart) (readable : readFile s ≡ answered ps)
-    (before : List ℕ) (r : Planned) (after : List ℕ) (kept : Promise s before r after) where
-  pub refused-iff-none-passes : RefusedToPlan r ↔ ((rs : List Row) → PassingChoice ps rs → ⊥)
-  unfolding outcomeOf
-  refused-iff-none-passes = let m = met s before r after ps kept readable in go (m .1) (handed-outcome (m .2))
-    where
-      go : {a : Answer (List ℕ)} → Demanded ps (length before) a → r .outcome ≡ outcomeOf a → RefusedToPlan r ↔ ((rs : List Row) → PassingChoice ps rs → ⊥)
-      go (none-passes n) e = ((λ h. none-to-plan n), λ h. none-refused r n e)
-      go (fits p f) e = ((λ h. absurd (done-not-refused-to-plan r e h)), λ h. absurd (h _ (printed-passes p)))
-      go (too-long p f) e = ((λ h. absurd (no-room-not-refused-to-plan r e h)), λ h. absurd (h _ (printed-passes p)))
+-- the listing that is handed over is in the first bytes, as many as are counted
+handed-text : {text before after : List ℕ} {r : Planned} → HandedOver (answered text) before r after → text ≡ take (r .written) after
+unfolding planned bufferAfter
+handed-text {text} {before} h = rw (h .result, h .bytes) (sym (take-append-seam text (drop (length text) before)))
 
-  pub planned-iff-fits : (rs : List Row) → PassingChoice ps rs → (text : List ℕ) × Printed ps text × (HandedOver (answered text) before r after ↔ (length text ≤ length before))
+-- of what is handed over
+module _ {ps : List FilePart} {before : List ℕ} {r : Planned} {after : List ℕ} where
+  refused-iff-none-passes : {a : Answer (List ℕ)} → Demanded ps (length before) a → HandedOver a before r after → RefusedToPlan r ↔ ((rs : List Row) → PassingChoice ps rs → ⊥)
   unfolding outcomeOf
-  planned-iff-fits rs c = let m = met s before r after ps kept readable in go (m .1) (m .2)
-    where
-      go : {a : Answer (List ℕ)} → Demanded ps (length before) a → HandedOver a before r after → (text : List ℕ) × Printed ps text × (HandedOver (answered text) before r after ↔ (length text ≤ length before))
-      go (none-passes n) h = absurd (none-to-plan n rs c)
-      go (fits {text} p f) h = (text, p, ((λ x. f), λ x. h))
-      go (too-long {text} p f) h = (text, p, ((λ x. absurd (done-not-refused (sym (handed-outcome x) ∙ handed-outcome h))), λ l. absurd (omega (arith, f, l))))
+  refused-iff-none-passes (none-passes n) h = ((λ x. none-to-plan n), λ x. none-refused r n (handed-outcome h))
+  refused-iff-none-passes (fits p f) h = ((λ x. absurd (done-not-refused-to-plan r (handed-outcome h) x)), λ x. absurd (x _ (printed-passes p)))
+  refused-iff-none-passes (too-long p f) h = ((λ x. absurd (no-room-not-refused-to-plan r (handed-outcome h) x)), λ x. absurd (x _ (printed-passes p)))
+
+  planned-iff-fits : {a : Answer (List ℕ)} → Demanded ps (length before) a → HandedOver a before r after →
+      (rs : List Row) → PassingChoice ps rs → (text : List ℕ) × Printed ps text × (HandedOver (answered text) before r after ↔ (length text ≤ length before))
+  unfolding outcomeOf
+  planned-iff-fits (none-passes n) h rs c = absurd (none-to-plan n rs c)
+  planned-iff-fits (fits {text} p f) h rs c = (text, p, ((λ x. f), λ x. h))
+  planned-iff-fits (too-long {text} p f) h rs c = (text, p, ((λ x. absurd (done-not-refused (sym (handed-outcome x) ∙ handed-outcome h))), λ l. absurd (omega (arith, f, l))))
+
+  least-of-all : {a : Answer (List ℕ)} → Demanded ps (length before) a → HandedOver a before r after →
+      (text : List ℕ) → HandedOver (answered text) before r after → (p : Printed ps text) × ((rs : List Row) → PassingChoice ps rs → loadOf (printedRows (p .shares)) ⊑ loadOf rs)
+  unfolding outcomeOf
+  least-of-all (none-passes n) h text x = absurd (done-not-refused (sym (handed-outcome x) ∙ handed-outcome h))
+  least-of-all (fits p f) h text x = let q : Printed ps text = subst (Printed ps) (handed-text h ∙ sym (handed-text x)) p in (q, q .least)
+  least-of-all (too-long p f) h text x = absurd (done-not-refused (sym (handed-outcome x) ∙ handed-outcome h))
+
+pub in-words : (Promise : List ℕ → List ℕ → Planned → List ℕ → Type 0) → Demand3 Promise → Demand3InWords Promise
+in-words Promise met s before r after ps kept readable =
+    let m = met s before r after ps kept readable in
+    record { refused-iff = refused-iff-none-passes (m .1) (m .2); planned-iff = planned-iff-fits (m .1) (m .2); least = least-of-all (m .1) (m .2) }
+
+pub demand-3-in-words : Demand3InWords PlanAnswered
+demand-3-in-words = in-words PlanAnswered demand-3

@@ -4,13 +4,13 @@ use Rattle.planner.specs.NothingFree.{NothingFree}
 use Rattle.planner.proofs.LocalTest.{lock-holding-settled, holding-settled, blocking-settled, budget-settled}
 use Rattle.planner.proofs.Weighing.{weighed-settled}
 use Rattle.planner.proofs.KeptList.{kept-settled}
-use Rattle.planner.proofs.Settled.{text-settled, answer-settled, demand-3-settled}
+use Rattle.planner.proofs.Settled.{text-settled, answer-settled, plan-settled}
 
 pub nothing-free : NothingFree
 nothing-free = record {
   listing = text-settled;
   answer = λ ps room a b h k. answer-settled h k;
-  plan = demand-3-settled;
+  plan = plan-settled;
   kept = λ p a b h k. kept-settled p a b h k;
   weighed = weighed-settled;
   lock-holding = λ ts l r v w h k. lock-holding-settled h k;

@@ -1,11 +1,11 @@
 -- Demand 3 leaves nothing free: two listings that satisfy `Printed` for the same parts are equal, and so are two answers that satisfy `Demanded` for the same parts and
--- room. An operation that meets demand 3 answers a readable file just as `plan` does.
+-- room. An operation that meets demand 3 answers a readable file just as `plan` does, and one that meets demand 1 too, every file.
 -- Assumes nothing.
-use Prim.Native.Nat.{ℕ, _≤_, _<_}
+use Prim.Native.Nat.{ℕ, _≤_}
 use native.Mathlib.Omega.{arith}
 use native.Mathlib.Decide.{decLe}
 use mathlib.Core.Path.{_≡_, refl, sym, ap, ap₂, subst, _∙_}
-use mathlib.Core.List.{List, [], _∷_, map}
+use mathlib.Core.List.{List, _∷_, map}
 use lib.ListN.{length}
 use Rattle.least.specs.Each.{Each}
 use Rattle.least.specs.Each.Each.{none, more}
@@ -19,12 +19,15 @@ use Rattle.load.specs.Load.{boundsOf}
 use Rattle.plan_file.specs.Above.{FilePart, lockNames}
 use Rattle.plan_file.specs.Numbers.{tasksIn}
 use Rattle.plan_file.specs.Reading.{readFile}
+use Rattle.plan_file.proofs.Reading.{read-refused-iff}
 use Rattle.listing.specs.Listing.{Share, ceilingsUnder, listingOf}
 use Rattle.answers.specs.declared.Planned.{Planned}
 use Rattle.answers.specs.Answers.{HandedOver, PlanAnswered}
 use Rattle.answers.specs.Choice.{FromKept}
 use Rattle.answers.proofs.KeptRows.{map-of-each}
-use Rattle.planner.specs.Demand3.{rowsOf, PrintedShare, Printed, NoBudgetAt, NoneToPlan, Demanded, Demand3}
+use Rattle.planning.proofs.Answering.{plan-unread}
+use Rattle.planner.specs.Demand1.{Demand1}
+use Rattle.planner.specs.Demand3.{printedRows, PrintedShare, Printed, NoBudgetAt, NoneToPlan, Demanded, Demand3}
 use Rattle.planner.specs.Demand3.NoneToPlan.{ten, eleven}
 use Rattle.planner.specs.Demand3.Demanded.{none-passes, fits, too-long}
 use Rattle.planner.proofs.Demand3.{plan-demanded}
@@ -56,16 +59,16 @@ same-share p s u h k row bound i = record {
   ceilings = (h .ceilings ∙ ap (λ (r : Row). ceilingsUnder (shownCeiling (tasksIn p) (r .holding)) 1 (lockNames p)) row ∙ sym (k .ceilings)) i;
 }
 
-same-shares : {ps : List FilePart} {ss us : List Share} → Each PrintedShare ps ss → Each PrintedShare ps us → rowsOf ss ≡ rowsOf us → map (λ s. s .bound) ss ≡ map (λ s. s .bound) us → ss ≡ us
+same-shares : {ps : List FilePart} {ss us : List Share} → Each PrintedShare ps ss → Each PrintedShare ps us → printedRows ss ≡ printedRows us → map (λ s. s .bound) ss ≡ map (λ s. s .bound) us → ss ≡ us
 same-shares none none rows bounds = refl
 same-shares (more {x = p} {y = s} {ys = ss} h hs) (more {y = u} {ys = us} k ks) rows bounds =
     let row : s .row ≡ u .row = cc in
     let bound : s .bound ≡ u .bound = cc in
-    let rows-behind : rowsOf ss ≡ rowsOf us = cc in
+    let rows-behind : printedRows ss ≡ printedRows us = cc in
     let bounds-behind : map (λ s. s .bound) ss ≡ map (λ s. s .bound) us = cc in
     ap₂ (λ (x : Share) (xs : List Share). x ∷ xs) (same-share p s u h k row bound) (same-shares hs ks rows-behind bounds-behind)
 
-rows-settled : {ps : List FilePart} {text other : List ℕ} (p : Printed ps text) (q : Printed ps other) → rowsOf (p .shares) ≡ rowsOf (q .shares)
+rows-settled : {ps : List FilePart} {text other : List ℕ} (p : Printed ps text) (q : Printed ps other) → printedRows (p .shares) ≡ printedRows (q .shares)
 rows-settled p q =
     same-rows (p .kept) (q .kept)
     (map-of-each (λ s. s .row) (p .greatest _ (printed-passes q) (q .kept) (q .least _ (printed-passes p))))
@@ -107,3 +110,11 @@ pub demand-3-settled : (Promise : List ℕ → List ℕ → Planned → List ℕ
 demand-3-settled Promise met s before r after ps e kept =
     let m = met s before r after ps kept e in
     subst (λ (a : Answer (List ℕ)). HandedOver a before r after) (answer-settled (m .1) (plan-demanded s (length before) ps e)) (m .2)
+
+pub plan-settled : (Promise : List ℕ → List ℕ → Planned → List ℕ → Type 0) → Demand1 Promise → Demand3 Promise →
+    (s before : List ℕ) (r : Planned) (after : List ℕ) → Promise s before r after → PlanAnswered s before r after
+plan-settled Promise one three s before r after h = go (readFile s) refl
+  where
+    go : (x : Answer (List FilePart)) → readFile s ≡ x → PlanAnswered s before r after
+    go (answered ps) e = demand-3-settled Promise three s before r after ps e h
+    go (refused x) e = subst (λ (a : Answer (List ℕ)). HandedOver a before r after) (sym (plan-unread s x e (length before))) (one .unread s before r after x h (read-refused-iff s x .0 e))

@@ -3,7 +3,7 @@
 use Prim.Native.Nat.{ℕ, suc, _+_, _≤_, _<_}
 use native.Mathlib.Omega.{arith}
 use mathlib.Core.Path.{_≡_, refl, sym, ap, subst, _∙_}
-use mathlib.Core.List.{List, [], _∷_, map, List·Memᴰ, List·Memᴰ·head, List·Memᴰ·tail, Memᴰ·map}
+use mathlib.Core.List.{List, [], _∷_, List·Memᴰ, List·Memᴰ·head, List·Memᴰ·tail, Memᴰ·map}
 use borrow.Author.Tests.{leb-true}
 use lib.Dec.{leb}
 use lib.ListN.{length, length-map}
@@ -26,7 +26,7 @@ use Rattle.plan_file.proofs.Fine.{FineFilePart, AllFine}
 use Rattle.listing.specs.Listing.{Ceiling, Share, ceilingsUnder}
 use Rattle.listing.proofs.Lengths.{ShortCeiling, ShortShare, listing-most}
 use Rattle.planning.proofs.Weighed.{deadline-most}
-use Rattle.planner.specs.Demand3.{rowsOf, shownFor, PrintedShare, Printed}
+use Rattle.planner.specs.Demand3.{printedRows, shownFor, PrintedShare, Printed}
 
 -- the ceilings under a setting, of the locks of these names
 under-length : (σ : Setting) (l : ℕ) (names : List (List ℕ)) → length (ceilingsUnder σ l names) ≡ length names
@@ -96,7 +96,7 @@ each-right {R = R} y (more {x = x} h hs) (List·Memᴰ·head e) = (x, List·Mem�
 each-right y (more h hs) (List·Memᴰ·tail m) = let r = each-right y hs m in (r .0, List·Memᴰ·tail (r .1), r .2)
 
 module _ {ps : List FilePart} {text : List ℕ} (fine : AllFine ps) (p : Printed ps text) where
-  rows-served : (r : Row) → List·Memᴰ r (rowsOf (p .shares)) → (1 ≤ r .period) × (r .period ≤ numberLimit)
+  rows-served : (r : Row) → List·Memᴰ r (printedRows (p .shares)) → (1 ≤ r .period) × (r .period ≤ numberLimit)
   rows-served r m =
       let x = map-iff (λ s. s .row) r (p .shares) .0 m in
       let q = each-right (x .0) (p .choice) (x .1) in
@@ -107,7 +107,7 @@ module _ {ps : List FilePart} {text : List ℕ} (fine : AllFine ps) (p : Printed
   shares-short : (s : Share) → List·Memᴰ s (p .shares) → ShortShare s
   shares-short s m =
       let q = each-right s (p .choice) m in
-      let b = boundsOf-small numberLimit (rowsOf (p .shares)) rows-served (s .bound) (subst (List·Memᴰ (s .bound)) (p .bounds) (Memᴰ·map (λ k. k .bound) m)) in
+      let b = boundsOf-small numberLimit (printedRows (p .shares)) rows-served (s .bound) (subst (List·Memᴰ (s .bound)) (p .bounds) (Memᴰ·map (λ k. k .bound) m)) in
       share-short (q .0) (fine (q .0) (q .1)) s (q .2) (b .0) (b .1)
 
   pub printed-most : length ps ≤ partLimit → length text ≤ 3690

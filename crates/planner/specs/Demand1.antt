@@ -18,6 +18,7 @@ use Rattle.refusal.specs.Questions.Answer.{answered, refused}
 use Rattle.load.specs.declared.Row.{Row}
 use Rattle.load.specs.declared.Rows.{Rows}
 use Rattle.load.specs.Weigh.{weighOf, weighRows}
+use Rattle.plan_file.specs.Statement.{RefusedAt}
 use Rattle.answers.specs.declared.Planned.{Planned}
 use Rattle.answers.specs.Answers.{HandedOver, candidatesOf, nameOf, supplyAnswer}
 
@@ -28,9 +29,11 @@ abbrev pub OfThePlan : Refusal → Type 0
 OfThePlan r = OfTheFile r ⊎ (((j : ℕ) × (r ≡ NoBudget j)) ⊎ ((r ≡ NoChoice) ⊎ (r ≡ NoRoom)))
 
 pub record Demand1 (Promise : List ℕ → List ℕ → Planned → List ℕ → Type 0) : Type 0 where
-  -- a plan: a listing that fits the lent bytes, or a refusal by questions 1 to 11 or 14
+  -- a plan hands over bytes that fit the lent ones, or a refusal by questions 1 to 11 or 14; which bytes and which refusal is demand 3
   pub plan : (s before : List ℕ) (r : Planned) (after : List ℕ) → Promise s before r after →
       ((text : List ℕ) × (length text ≤ length before) × HandedOver (answered text) before r after) ⊎ ((x : Refusal) × OfThePlan x × HandedOver (refused x) before r after)
+  -- a file that questions 1 to 9 refuse gets that refusal, with its place
+  pub unread : (s before : List ℕ) (r : Planned) (after : List ℕ) (x : Refusal) → Promise s before r after → RefusedAt s x → HandedOver (refused x) before r after
   -- a refusal writes nothing into the lent buffer
   pub untouched : (s before : List ℕ) (r : Planned) (after : List ℕ) (x : Refusal) → Promise s before r after → r .outcome ≡ Refused x → after ≡ before
   -- a plan writes no byte after those that it counts

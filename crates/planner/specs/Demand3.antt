@@ -1,5 +1,5 @@
 -- Demand 3 as a statement, for every readable file and all lent bytes, over every setting and every budget.
---   rowsOf shares      == the rows that are printed
+--   printedRows shares == the rows that are printed
 --   shownFor p s       == the ceilings shown for the X that is printed of the part p
 --   PrintedShare p s   == what is printed of the part p is its part of a choice, with the ceilings shown for its X
 --   Printed ps text    == what demand 3 says of a printed plan
@@ -8,9 +8,12 @@
 --   Demanded ps room a == a is what demand 3 asks of a plan of the parts ps, where this many bytes are lent
 --   Demand3 Promise    == demand 3 of every operation that promises `Promise` of the file, the lent bytes before, the result and the lent bytes after;
 --                         `plan` promises `PlanAnswered`
+--   RefusedToPlan r    == r is refused with 10 or 11
+--   InWords ps before r after, Demand3InWords Promise == the same, sentence by sentence
 -- Assumes nothing.
 use Prim.Native.Nat.{ℕ, _≤_, _<_}
 use mathlib.Core.Path.{_≡_}
+use mathlib.Core.Logic.{_⊎_, _↔_}
 use mathlib.Core.Bool.{true}
 use mathlib.Core.List.{List, map}
 use lib.ListN.{length}
@@ -19,6 +22,7 @@ use Rattle.least.specs.Lists.{nthOr}
 use Rattle.least.specs.Fraction.{_⊑_}
 use Rattle.refusal.specs.declared.Refusal.{Refusal}
 use Rattle.refusal.specs.declared.Refusal.the-variants.{NoBudget, NoChoice, NoRoom}
+use Rattle.refusal.specs.declared.Outcome.the-variants.{Refused}
 use Rattle.refusal.specs.Questions.{Answer}
 use Rattle.refusal.specs.Questions.Answer.{answered, refused}
 use Rattle.task_set.specs.Blocking.{Setting}
@@ -33,8 +37,8 @@ use Rattle.answers.specs.declared.Planned.{Planned}
 use Rattle.answers.specs.Answers.{HandedOver}
 use Rattle.answers.specs.Choice.{Budgeted, rowUnder, Chosen, PassingChoice, FromKept}
 
-abbrev pub rowsOf : List Share → List Row
-rowsOf shares = map (λ s. s .row) shares
+abbrev pub printedRows : List Share → List Row
+printedRows shares = map (λ s. s .row) shares
 
 abbrev pub shownFor : FilePart → Share → Setting
 shownFor p s = shownCeiling (tasksIn p) (s .row .holding)
@@ -53,14 +57,14 @@ pub record Printed (ps : List FilePart) (text : List ℕ) : Type 0 where
   -- what a plan prints is one such choice with that choice's load
   pub bytes : text ≡ listingOf shares
   pub choice : Each PrintedShare ps shares
-  pub system : passesSystem (rowsOf shares) ≡ true
-  pub bounds : map (λ s. s .bound) shares ≡ boundsOf (rowsOf shares)
+  pub system : passesSystem (printedRows shares) ≡ true
+  pub bounds : map (λ s. s .bound) shares ≡ boundsOf (printedRows shares)
   -- no such choice, of any ceilings and any whole-tick budgets, has a smaller load
-  pub least : (rs : List Row) → PassingChoice ps rs → loadOf (rowsOf shares) ⊑ loadOf rs
+  pub least : (rs : List Row) → PassingChoice ps rs → loadOf (printedRows shares) ⊑ loadOf rs
   -- it is built from kept pairs
-  pub kept : Each FromKept ps (rowsOf shares)
+  pub kept : Each FromKept ps (printedRows shares)
   -- every part has the greatest holding time that it has in any choice of that load built from kept pairs
-  pub greatest : (rs : List Row) → PassingChoice ps rs → Each FromKept ps rs → loadOf rs ⊑ loadOf (rowsOf shares) → Each (λ s r. r .holding ≤ s .row .holding) shares rs
+  pub greatest : (rs : List Row) → PassingChoice ps rs → Each FromKept ps rs → loadOf rs ⊑ loadOf (printedRows shares) → Each (λ s r. r .holding ≤ s .row .holding) shares rs
 
 pub record NoBudgetAt (ps : List FilePart) (j : ℕ) : Type 0 where
   pub from : 1 ≤ j
@@ -84,3 +88,19 @@ abbrev pub Demand3 : (List ℕ → List ℕ → Planned → List ℕ → Type 0)
 Demand3 Promise =
     (s before : List ℕ) (r : Planned) (after : List ℕ) (ps : List FilePart) → Promise s before r after → readFile s ≡ answered ps →
     (a : Answer (List ℕ)) × Demanded ps (length before) a × HandedOver a before r after
+
+abbrev pub RefusedToPlan : Planned → Type 0
+RefusedToPlan r = ((j : ℕ) × (r .outcome ≡ Refused (NoBudget j))) ⊎ (r .outcome ≡ Refused NoChoice)
+
+-- of a readable file with the parts ps
+pub record InWords (ps : List FilePart) (before : List ℕ) (r : Planned) (after : List ℕ) : Type 0 where
+  -- it is refused with 10 or 11 exactly when no choice passes both the local and the system test
+  pub refused-iff : RefusedToPlan r ↔ ((rs : List Row) → PassingChoice ps rs → ⊥)
+  -- if one passes, the file is planned exactly when its listing fits
+  pub planned-iff : (rs : List Row) → PassingChoice ps rs → (text : List ℕ) × Printed ps text × (HandedOver (answered text) before r after ↔ (length text ≤ length before))
+  -- what a plan prints is one such choice, and no such choice has a smaller load
+  pub least : (text : List ℕ) → HandedOver (answered text) before r after → (p : Printed ps text) × ((rs : List Row) → PassingChoice ps rs → loadOf (printedRows (p .shares)) ⊑ loadOf rs)
+
+abbrev pub Demand3InWords : (List ℕ → List ℕ → Planned → List ℕ → Type 0) → Type 0
+Demand3InWords Promise =
+    (s before : List ℕ) (r : Planned) (after : List ℕ) (ps : List FilePart) → Promise s before r after → readFile s ≡ answered ps → InWords ps before r after

@@ -1,22 +1,21 @@
--- That the demands leave nothing free: what they say of an answer, one answer alone satisfies. So no sentence of theirs can be dropped unnoticed.
+-- That the demands leave nothing free: what they say of an answer, one answer alone satisfies.
 -- Assumes nothing.
 use Prim.Native.Nat.{ℕ}
 use mathlib.Core.Path.{_≡_}
 use mathlib.Core.List.{List}
 use Rattle.refusal.specs.Questions.{Answer}
-use Rattle.refusal.specs.Questions.Answer.{answered}
 use Rattle.task_set.specs.declared.Task.{Task}
 use Rattle.task_set.specs.Blocking.{Setting}
 use Rattle.candidates.specs.declared.Kept.{Kept}
 use Rattle.load.specs.declared.Row.{Row}
 use Rattle.load.specs.declared.Weighed.{Weighed}
 use Rattle.plan_file.specs.Above.{FilePart}
-use Rattle.plan_file.specs.Reading.{readFile}
 use Rattle.answers.specs.declared.Planned.{Planned}
 use Rattle.answers.specs.Answers.{PlanAnswered}
 use Rattle.planner.specs.Weighing.{WeighedIs}
 use Rattle.planner.specs.LocalTest.{LockHolding, PartHolding, BlockingIs, LeastPassing}
 use Rattle.planner.specs.Numbers.{KeptIs}
+use Rattle.planner.specs.Demand1.{Demand1}
 use Rattle.planner.specs.Demand3.{Printed, Demanded, Demand3}
 
 pub record NothingFree : Type 1 where
@@ -24,9 +23,9 @@ pub record NothingFree : Type 1 where
   pub listing : (ps : List FilePart) (text other : List ℕ) → Printed ps text → Printed ps other → text ≡ other
   -- and one answer, refusals included, for the parts and the room
   pub answer : (ps : List FilePart) (room : ℕ) (a b : Answer (List ℕ)) → Demanded ps room a → Demanded ps room b → a ≡ b
-  -- whoever meets demand 3 answers a readable file as `plan` does
-  pub plan : (Promise : List ℕ → List ℕ → Planned → List ℕ → Type 0) → Demand3 Promise →
-      (s before : List ℕ) (r : Planned) (after : List ℕ) (ps : List FilePart) → readFile s ≡ answered ps → Promise s before r after → PlanAnswered s before r after
+  -- whoever meets demands 1 and 3 answers every file as `plan` does
+  pub plan : (Promise : List ℕ → List ℕ → Planned → List ℕ → Type 0) → Demand1 Promise → Demand3 Promise →
+      (s before : List ℕ) (r : Planned) (after : List ℕ) → Promise s before r after → PlanAnswered s before r after
   -- demand 2 allows one candidate answer for a part, and one answer of weighing for a list of rows
   pub kept : (p : FilePart) (a b : Kept) → KeptIs p a → KeptIs p b → a ≡ b
   pub weighed : (rows : List Row) (w v : Weighed) → WeighedIs rows w → WeighedIs rows v → w ≡ v
