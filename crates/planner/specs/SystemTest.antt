@@ -58,5 +58,5 @@ pub record SystemTest : Type 0 where
   pub bounds : (rows : List Row) → passesSystem rows ≡ true → (i : ℕ) → 1 ≤ i → i ≤ length rows → BoundIs rows i (boundAt (boundsOf rows) i)
   -- each row has one
   pub count : (rows : List Row) → length (boundsOf rows) ≡ length rows
-  -- the load is the greatest bound; its row is the first that reaches it
+  -- the load is the greatest bound; its row is the first that reaches it; a choice's load is the load of its rows
   pub load : (rows : List Row) → passesSystem rows ≡ true → 1 ≤ length rows → LoadIs rows (loadOf rows) (loadRow rows)
