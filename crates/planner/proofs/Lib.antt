@@ -1,6 +1,7 @@
 pub mod Local
 pub mod Reversed
 pub mod LocalTest
+pub mod SystemTest
 pub mod Weighing
 pub mod KeptList
 pub mod Names

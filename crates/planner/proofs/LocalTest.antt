@@ -11,12 +11,14 @@ use Rattle.task_set.specs.declared.Task.{Task}
 use Rattle.task_set.specs.Blocking.{Setting, blockingOf, needOf}
 use Rattle.task_set.proofs.Blocking.{blocking-paper}
 use Rattle.holding.specs.Holding.{HoldingTime, holdingTimeOf}
-use Rattle.holding.proofs.Holding.{held-paper, inRange-paper, permitted-paper, holdingTime-paper}
+use Rattle.holding.proofs.Holding.{held-paper, inRange-paper, holding-paper, permitted-paper, holdingTime-paper}
 use Rattle.budget.specs.Budget.{passes}
 use Rattle.budget.proofs.Passing.{passes-paper, budget-iff}
 use Rattle.candidates.specs.declared.Pair.{Pair}
+use Rattle.candidates.specs.Candidates.{shownCeiling}
 use Rattle.candidates.specs.Statement.{Permitted, Candidate}
-use Rattle.planner.specs.LocalTest.{LockHolding, PermittedAt, PartHolding, BlockingIs, Passes, LeastPassing, LocalTest}
+use Rattle.candidates.proofs.Shown.{Within, shown-least}
+use Rattle.planner.specs.LocalTest.{LockHolding, PermittedAt, PartHolding, BlockingIs, Passes, LeastPassing, ShownAt, LocalTest}
 use Rattle.planner.proofs.Reversed.{blocking-reverse}
 
 lock-holding-iff : (ts : List Task) (l r w : ℕ) → HoldingTime ts l r w ↔ LockHolding ts l r w
@@ -81,8 +83,25 @@ candidate-iff P ts m c = (
   (λ h. record { setting = h .0; allowed = h .1; holding = h .2; budget = budget-iff P ts m (h .0) (c .budget) .1 (least-iff P ts m (h .0) (c .budget) .1 (h .3)) }),
 )
 
+module _ (ts : List Task) (x l : ℕ) where
+  within-iff : (r : ℕ) → Within ts x l r ↔ ((p : PermittedAt ts l r) × (p .time ≤ x))
+  within-iff r = (to, from)
+    where
+      to : Within ts x l r → (p : PermittedAt ts l r) × (p .time ≤ x)
+      to k =
+          let h = holding-paper ts l r (k .time) .0 (k .is) in
+          (record { lowest = k .low; most = k .high; time = k .time; holds = lock-holding-iff ts l r (k .time) .0 (h .0); in-time = h .1 }, k .most)
+
+      from : (p : PermittedAt ts l r) × (p .time ≤ x) → Within ts x l r
+      from (p, u) = record { low = p .lowest; high = p .most; time = p .time; is = holding-paper ts l r (p .time) .1 (lock-holding-iff ts l r (p .time) .1 (p .holds), p .in-time); most = u }
+
+  shown-is : (r : ℕ) (p : PermittedAt ts l r) → p .time ≤ x → ShownAt ts x l (shownCeiling ts x l)
+  shown-is r p u =
+      let s = within-iff (shownCeiling ts x l) .0 (shown-least ts x l r (within-iff r .1 (p, u)) .0) in
+      record { permitted = s .0; most = s .1; lowest = λ q k v. shown-least ts x l q (within-iff q .1 (k, v)) .1 }
+
 pub local-test : LocalTest
-local-test = record { permitted = permitted-iff; holding = holding-is; blocking = blocking-is; budget = passes-iff; candidate = candidate-iff }
+local-test = record { permitted = permitted-iff; holding = holding-is; blocking = blocking-is; budget = passes-iff; candidate = candidate-iff; shown = shown-is }
 
 pub lock-holding-settled : {ts : List Task} {l r v w : ℕ} → LockHolding ts l r v → LockHolding ts l r w → v ≡ w
 lock-holding-settled {v = v} {w = w} h k = omega (arith, h .least w (k .some) (k .held), k .least v (h .some) (h .held))
@@ -103,3 +122,6 @@ module _ {m : ℕ} {σ : Setting} {lower : List Task} where
 
 pub budget-settled : {P : ℕ} {ts : List Task} {m : ℕ} {σ : Setting} {Q R : ℕ} → LeastPassing P ts m σ Q → LeastPassing P ts m σ R → Q ≡ R
 budget-settled {Q = Q} {R = R} h k = omega (arith, h .least R (k .some) (k .passing), k .least Q (h .some) (h .passing))
+
+pub shown-settled : {ts : List Task} {x l q r : ℕ} → ShownAt ts x l q → ShownAt ts x l r → q ≡ r
+shown-settled {q = q} {r = r} h k = omega (arith, h .lowest r (k .permitted) (k .most), k .lowest q (h .permitted) (h .most))

@@ -1,7 +1,7 @@
 -- The demands leave nothing free.
 -- Assumes nothing.
 use Rattle.planner.specs.NothingFree.{NothingFree}
-use Rattle.planner.proofs.LocalTest.{lock-holding-settled, holding-settled, blocking-settled, budget-settled}
+use Rattle.planner.proofs.LocalTest.{lock-holding-settled, holding-settled, blocking-settled, budget-settled, shown-settled}
 use Rattle.planner.proofs.Weighing.{weighed-settled}
 use Rattle.planner.proofs.KeptList.{kept-settled}
 use Rattle.planner.proofs.Settled.{text-settled, answer-settled, plan-settled}
@@ -17,4 +17,5 @@ nothing-free = record {
   holding = λ ts m σ X Y h k. holding-settled h k;
   blocking = λ m σ lower b c h k. blocking-settled h k;
   budget = λ P ts m σ Q R h k. budget-settled h k;
+  shown = λ ts x l q r h k. shown-settled h k;
 }

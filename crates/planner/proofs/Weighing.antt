@@ -1,24 +1,20 @@
 -- Questions 12 and 13 of weighing, and its answer, in the paper's words.
 -- Assumes nothing.
-use Prim.Native.Nat.{ℕ, zero, suc, _-_, _≤_, _<_}
+use Prim.Native.Nat.{ℕ, zero, suc, _≤_, _<_}
 use native.Mathlib.Omega.{arith}
 use native.Mathlib.Decide.{decLe}
 use mathlib.Core.Path.{_≡_, refl, sym, ap, _∙_, subst}
 use mathlib.Core.Bool.{Bool, true, false, not, _&&_, false≢true}
 use mathlib.Core.Logic.{_↔_}
-use mathlib.Core.List.{List, [], _∷_, reverse, List·Memᴰ}
+use mathlib.Core.List.{List, [], _∷_, List·Memᴰ}
 use borrow.Author.Tests.{leb-true, le-leb, not-true, not-false}
 use lib.Dec.{leb}
-use lib.ListN.{length, take, drop, getD}
+use lib.ListN.{length, getD}
 use lib.Seq.{ext-getD}
-use Rattle.least.specs.declared.Frac.{Frac}
 use Rattle.least.specs.Lists.{every, firstOf, nthOr, pad}
-use Rattle.least.specs.Fraction.{frac, _⊑_, _⊏_}
-use Rattle.least.proofs.Along.{along-at}
+use Rattle.least.specs.Fraction.{frac}
 use Rattle.least.proofs.First.{first-is, first-every, every-missed}
-use Rattle.least.proofs.Fraction.{not-⊏}
 use Rattle.least.proofs.Lists.{and-iff, every-member, every-all, nth-get, nth-member, first-at}
-use Rattle.least.proofs.Members.{getD-any}
 use Rattle.least.proofs.Pad.{length-pad, getD-pad-fits}
 use Rattle.refusal.specs.declared.Outcome.{Outcome}
 use Rattle.refusal.specs.declared.Outcome.the-variants.{Done, Refused}
@@ -28,12 +24,13 @@ use Rattle.refusal.specs.Questions.{ask, firstNo}
 use Rattle.refusal.proofs.Answers.{done-not-refused}
 use Rattle.load.specs.declared.Row.{Row}
 use Rattle.load.specs.declared.Weighed.{Weighed}
-use Rattle.load.specs.Load.{row, loadAt, boundOf, boundsOf, loadRow}
+use Rattle.load.specs.Load.{row, passesSystem, boundsOf}
 use Rattle.load.specs.Weigh.{RowFits, rowInRange, hasTime, weighQuestions, weighed, weighOf}
 use Rattle.load.proofs.InRange.{fits-in-range, in-range-fits}
-use Rattle.load.proofs.Load.{bound-paper, rowPasses-paper, bound-finite, boundsOf-length, load-greatest, loadRow-first}
-use Rattle.planner.specs.Weighing.{rowAt, L, TimeOf, CountFits, BadRowAt, NoTimeAt, BoundIs, boundAt, WeighedIs}
-use Rattle.planner.proofs.Reversed.{loadAt-reverse}
+use Rattle.load.proofs.Load.{boundsOf-length}
+use Rattle.planner.specs.SystemTest.{rowAt, boundAt}
+use Rattle.planner.specs.Weighing.{CountFits, BadRowAt, NoTimeAt, WeighedIs}
+use Rattle.planner.proofs.SystemTest.{time-iff, bound-settled, row-settled, load-settled, system-test}
 
 -- elements by number, from 1
 module _ {A : Type 0} (d : A) where
@@ -52,11 +49,6 @@ module _ {A : Type 0} (d : A) where
   nth-past (x ∷ xs) zero h = refl
   nth-past (x ∷ xs) (suc zero) h = absurd (omega arith)
   nth-past (x ∷ xs) (suc (suc i)) h = nth-past xs (suc i) (omega arith)
-
-  -- an element that there is
-  nth-any : (e : A) (xs : List A) (i : ℕ) → 1 ≤ i → i ≤ length xs → nthOr e i xs ≡ nthOr d i xs
-  nth-any e xs zero a b = absurd (omega arith)
-  nth-any e xs (suc i) a b = nth-get e i xs ∙ getD-any xs i e d (omega arith) ∙ sym (nth-get d i xs)
 
 -- the first element that does not pass a test
 module _ {A : Type 0} (d : A) (test : A → Bool) (xs : List A) where
@@ -144,53 +136,6 @@ module _ (rows : List Row) where
   every-iff : (every rowInRange rows ≡ true) ↔ ((r : Row) → List·Memᴰ r rows → RowFits r)
   every-iff = ((λ e r m. fits-iff r .0 (every-member rowInRange rows e m)), λ f. every-all rowInRange rows (λ r m. fits-iff r .1 (f r m)))
 
-  -- the bound of row j
-  bound-at : (j : ℕ) → 1 ≤ j → j ≤ length rows → nthOr (frac 0 0) j (boundsOf rows) ≡ boundOf (reverse (take (j - 1) rows)) (rowAt rows j) (drop j rows)
-  unfolding boundsOf
-  bound-at zero a b = absurd (omega arith)
-  bound-at (suc k) a b =
-      let e : suc k - 1 ≡ k = omega arith in
-      rw e (nth-get (frac 0 0) k (boundsOf rows) ∙ along-at boundOf (row 0 0 0) (frac 0 0) rows k (omega arith) ∙ ap (λ (r : Row). boundOf (reverse (take k rows)) r (drop (suc k) rows)) (sym (nth-get (row 0 0 0) k rows)))
-
-  module _ (j : ℕ) (a : 1 ≤ j) (b : j ≤ length rows) where
-    abbrev lower : List Row
-    lower = reverse (take (j - 1) rows)
-
-    load-is : (t : ℕ) → loadAt lower (rowAt rows j) (drop j rows) t ≡ L rows j t
-    load-is t = loadAt-reverse (take (j - 1) rows) (rowAt rows j) (drop j rows) t
-
-    time-iff : (hasTime (nthOr (frac 0 0) j (boundsOf rows)) ≡ true) ↔ ((t : ℕ) × TimeOf rows j t)
-    time-iff = (to, from)
-      where
-        to : hasTime (nthOr (frac 0 0) j (boundsOf rows)) ≡ true → (t : ℕ) × TimeOf rows j t
-        to e =
-            let p = bound-finite lower (rowAt rows j) (drop j rows) .0 (record { pos = leb-true 1 _ (rw (bound-at j a b) at e) }) in
-            let h = rowPasses-paper lower (rowAt rows j) (drop j rows) .0 p in
-            (h .0, record { from = h .1; to = h .2; served = omega (arith, h .3, load-is (h .0)) })
-
-        from : (t : ℕ) × TimeOf rows j t → hasTime (nthOr (frac 0 0) j (boundsOf rows)) ≡ true
-        from (t, h) =
-            let p = rowPasses-paper lower (rowAt rows j) (drop j rows) .1 (t, h .from, h .to, omega (arith, h .served, load-is t)) in
-            rw (bound-at j a b) (le-leb 1 _ (bound-finite lower (rowAt rows j) (drop j rows) .1 p .pos))
-
-    bound-is : hasTime (nthOr (frac 0 0) j (boundsOf rows)) ≡ true → BoundIs rows j (nthOr (frac 0 0) j (boundsOf rows))
-    bound-is e =
-        let B = nthOr (frac 0 0) j (boundsOf rows) in
-        let p = bound-paper lower (rowAt rows j) (drop j rows) (B .num) (B .den) (sym (bound-at j a b)) (leb-true 1 _ e) in
-        record {
-          time = record { from = p .above; to = p .within; served = omega (arith, p .value, p .served, load-is (B .den)) };
-          value = p .value ∙ load-is (B .den);
-          least = λ u t. rw (load-is u) at (p .least u (t .from) (t .to) (omega (arith, t .served, load-is u)));
-          smallest = λ u t g. earliest u t g (decLe (B .den) u);
-        }
-      where
-        earliest : (u : ℕ) → TimeOf rows j u → frac (L rows j u) u ⊑ nthOr (frac 0 0) j (boundsOf rows) → Dec (nthOr (frac 0 0) j (boundsOf rows) .den ≤ u) → nthOr (frac 0 0) j (boundsOf rows) .den ≤ u
-        earliest u t g (yes h) = h
-        earliest u t g (no h) =
-            let B = nthOr (frac 0 0) j (boundsOf rows) in
-            let p = bound-paper lower (rowAt rows j) (drop j rows) (B .num) (B .den) (sym (bound-at j a b)) (leb-true 1 _ e) in
-            absurd (not-⊏ (rw (load-is u) at (p .first u (t .from) (omega arith) (omega (arith, t .served, load-is u)))) g)
-
   -- questions 12 and 13
   asked-weigh : weighOf rows .outcome ≡ asked count (every rowInRange rows) (every hasTime (boundsOf rows)) (firstOf (λ r. not (rowInRange r)) rows) (firstOf (λ b. not (hasTime b)) (boundsOf rows))
   unfolding weighOf weighQuestions
@@ -229,8 +174,8 @@ module _ (rows : List Row) where
             fit = every-iff .0 (h .1);
             from = f .from;
             to = l;
-            none = λ t k. not-iff _ (time-iff j (f .from) l) .0 (f .fails) (t, k);
-            before = λ i a b. time-iff i a (omega arith) .0 (f .before i a b);
+            none = λ t k. not-iff _ (time-iff rows j (f .from) l) .0 (f .fails) (t, k);
+            before = λ i a b. time-iff rows i a (omega arith) .0 (f .before i a b);
           }
 
       from : NoTimeAt rows j → weighOf rows .outcome ≡ Refused (NoTime j)
@@ -238,37 +183,29 @@ module _ (rows : List Row) where
           let f = at-fails (frac 0 0) hasTime (boundsOf rows) j (record {
             from = n .from;
             to = omega (arith, n .to, boundsOf-length rows);
-            fails = not-iff _ (time-iff j (n .from) (n .to)) .1 (λ k. n .none (k .0) (k .1));
-            before = λ i a b. time-iff i a (omega (arith, n .to)) .1 (n .before i a b);
+            fails = not-iff _ (time-iff rows j (n .from) (n .to)) .1 (λ k. n .none (k .0) (k .1));
+            before = λ i a b. time-iff rows i a (omega (arith, n .to)) .1 (n .before i a b);
           }) in
           asked-weigh ∙ asked-13 count (every rowInRange rows) (every hasTime (boundsOf rows)) _ _ j .1 (count-iff .1 (n .count), every-iff .1 (n .fit), f .0, f .1)
 
   -- the answer
   module _ (fits : CountFits rows) (timed : every hasTime (boundsOf rows) ≡ true) where
-    padded : (i : ℕ) → nthOr (frac 0 0) i (pad rowLimit (frac 0 0) (boundsOf rows)) ≡ nthOr (frac 0 0) i (boundsOf rows)
+    padded : (i : ℕ) → boundAt (pad rowLimit (frac 0 0) (boundsOf rows)) i ≡ boundAt (boundsOf rows) i
     padded i = nth-pad (frac 0 0) rowLimit (boundsOf rows) i (omega (arith, fits .few, boundsOf-length rows))
 
-    bound-member : (i : ℕ) → 1 ≤ i → i ≤ length rows → List·Memᴰ (nthOr (frac 0 0) i (boundsOf rows)) (boundsOf rows)
-    bound-member i a b = nth-member (frac 0 0) i (boundsOf rows) a (omega (arith, boundsOf-length rows))
-
-    same-nth : (i : ℕ) → 1 ≤ i → i ≤ length rows → nthOr (frac 0 1) i (boundsOf rows) ≡ nthOr (frac 0 0) i (boundsOf rows)
-    same-nth i a b = nth-any (frac 0 0) (frac 0 1) (boundsOf rows) i a (omega (arith, boundsOf-length rows))
+    all-pass : passesSystem rows ≡ true
+    all-pass =
+        system-test .passes rows .1 (λ i a b. time-iff rows i a b .0 (every-member hasTime (boundsOf rows) timed (nth-member (frac 0 0) i (boundsOf rows) a (omega (arith, boundsOf-length rows)))))
 
     weighed-is : WeighedIs rows (weighed Done rows)
     unfolding weighed
-    weighed-is =
-        let r = loadRow-first rows (fits .some) in
-        record {
-          done = refl;
-          bounds = λ i a b. rw (padded i) (bound-is i a b (every-member hasTime (boundsOf rows) timed (bound-member i a b)));
-          places = length-pad rowLimit (frac 0 0) (boundsOf rows);
-          unused = λ i h. padded i ∙ nth-past (frac 0 0) (boundsOf rows) i (omega (arith, boundsOf-length rows));
-          greatest = λ i a b. rw (padded i) (load-greatest rows .0 _ (bound-member i a b));
-          row-from = r .above;
-          row-to = r .within;
-          reached = padded (loadRow rows) ∙ sym (same-nth (loadRow rows) (r .above) (r .within)) ∙ r .value;
-          first = λ i a b. rw (padded i, ← same-nth i a (omega (arith, r .within))) (r .before i a b);
-        }
+    weighed-is = record {
+      done = refl;
+      bounds = λ i a b. rw (padded i) (system-test .bounds rows all-pass i a b);
+      places = length-pad rowLimit (frac 0 0) (boundsOf rows);
+      unused = λ i h. padded i ∙ nth-past (frac 0 0) (boundsOf rows) i (omega (arith, boundsOf-length rows));
+      load = system-test .load rows all-pass (fits .some);
+    }
 
   pub weighOf-is : weighOf rows .outcome ≡ Done → WeighedIs rows (weighOf rows)
   unfolding weighOf
@@ -277,38 +214,17 @@ module _ (rows : List Row) where
       rw (sym (weighed-outcome (firstNo (weighQuestions rows)) rows) ∙ e) (weighed-is (count-iff .0 (h .0)) (h .2))
 
 -- only one answer is such
-bound-once : {rows : List Row} {i : ℕ} {b c : Frac} → BoundIs rows i b → BoundIs rows i c → b ≡ c
-bound-once {rows} {i} {b} {c} p q =
-    let e : b .den ≡ c .den = omega (arith, no-later p q, no-later q p) in
-    λ k. record { num = (p .value ∙ ap (L rows i) e ∙ sym (q .value)) k; den = e k }
-  where
-    no-later : {b c : Frac} → BoundIs rows i b → BoundIs rows i c → b .den ≤ c .den
-    no-later {b} {c} p q = p .smallest (c .den) (q .time) (subst (λ (n : ℕ). frac n (c .den) ⊑ b) (q .value) (subst (λ (n : ℕ). c ⊑ frac n (b .den)) (sym (p .value)) (q .least (b .den) (p .time))))
-
 module _ (rows : List Row) (w v : Weighed) (p : WeighedIs rows w) (q : WeighedIs rows v) where
-  same-bound : (i : ℕ) → 1 ≤ i → boundAt w i ≡ boundAt v i
+  same-bound : (i : ℕ) → 1 ≤ i → boundAt (w .bounds) i ≡ boundAt (v .bounds) i
   same-bound i a = go (decLe i (length rows))
     where
-      go : Dec (i ≤ length rows) → boundAt w i ≡ boundAt v i
-      go (yes h) = bound-once (p .bounds i a h) (q .bounds i a h)
+      go : Dec (i ≤ length rows) → boundAt (w .bounds) i ≡ boundAt (v .bounds) i
+      go (yes h) = bound-settled (p .bounds i a h) (q .bounds i a h)
       go (no h) = p .unused i (omega arith) ∙ sym (q .unused i (omega arith))
 
   same-bounds : w .bounds ≡ v .bounds
   same-bounds = ext-getD (frac 0 0) (w .bounds) (v .bounds) (p .places ∙ sym (q .places)) (λ k h. sym (nth-get _ k (w .bounds)) ∙ same-bound (suc k) (omega arith) ∙ nth-get _ k (v .bounds))
 
-module _ (rows : List Row) (w v : Weighed) (p : WeighedIs rows w) (q : WeighedIs rows v) where
-  no-earlier : v .row ≤ w .row
-  no-earlier = go (decLe (v .row) (w .row))
-    where
-      go : Dec (v .row ≤ w .row) → v .row ≤ w .row
-      go (yes h) = h
-      go (no h) =
-          let smaller : w .load ⊏ v .load = rw (← p .reached, same-bound rows w v p q (w .row) (p .row-from)) (q .first (w .row) (p .row-from) (omega arith)) in
-          let no-smaller : v .load ⊑ w .load = rw (← q .reached, ← same-bound rows w v p q (v .row) (q .row-from)) (p .greatest (v .row) (q .row-from) (q .row-to)) in
-          absurd (not-⊏ smaller no-smaller)
-
 pub weighed-settled : (rows : List Row) (w v : Weighed) → WeighedIs rows w → WeighedIs rows v → w ≡ v
 weighed-settled rows w v p q =
-    let r : w .row ≡ v .row = omega (arith, no-earlier rows w v p q, no-earlier rows v w q p) in
-    let l : w .load ≡ v .load = sym (p .reached) ∙ ap (boundAt w) r ∙ same-bound rows w v p q (v .row) (q .row-from) ∙ q .reached in
-    λ i. record { outcome = (p .done ∙ sym (q .done)) i; bounds = same-bounds rows w v p q i; load = l i; row = r i }
+    λ i. record { outcome = (p .done ∙ sym (q .done)) i; bounds = same-bounds rows w v p q i; load = load-settled (p .load) (q .load) i; row = row-settled (p .load) (q .load) i }

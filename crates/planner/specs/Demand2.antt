@@ -5,6 +5,7 @@
 use Rattle.planner.specs.Refusals.{EveryRefusal}
 use Rattle.planner.specs.Numbers.{EveryNumber}
 use Rattle.planner.specs.LocalTest.{LocalTest}
+use Rattle.planner.specs.SystemTest.{SystemTest}
 
 pub record Demand2 : Type 0 where
   -- of each operation, in which case each refusal comes
@@ -13,3 +14,5 @@ pub record Demand2 : Type 0 where
   pub numbers : EveryNumber
   -- the holding times, blockings and budgets that these are made of
   pub local : LocalTest
+  -- the system test, bounds and load of a choice
+  pub system : SystemTest

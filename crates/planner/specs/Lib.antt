@@ -1,3 +1,4 @@
+pub mod SystemTest
 pub mod Weighing
 pub mod LocalTest
 pub mod Refusals

@@ -5,7 +5,8 @@
 --   BlockingIs m σ lower b == b is the blocking of task i, where the i − 1 tasks before it are `lower`: the greatest c of one of them on a lock with ceiling ≥ i, else 0
 --   Passes P ts m σ Q    == for each i some t, 1 ≤ t ≤ D_i, has C_i + Σ_{k>i} ⌈t/T_k⌉×C_k + blocking ≤ supply(t)
 --   LeastPassing P ts m σ Q == Q is the least budget, 1 ≤ Q ≤ P, that passes
---   LocalTest            == these are the permitted settings, holding times, blockings, budgets and candidates that the answers are made of
+--   ShownAt ts x l r     == r is the ceiling shown of lock l for x: the lowest whose w is at most x and permitted
+--   LocalTest            == these are the permitted settings, holding times, blockings, budgets, candidates and ceilings that the answers are made of
 -- Assumes nothing.
 use Prim.Native.Nat.{ℕ, suc, _+_, _≤_}
 use mathlib.Core.Path.{_≡_}
@@ -20,6 +21,7 @@ use Rattle.task_set.specs.Blocking.{Setting, blockingOf}
 use Rattle.holding.specs.Holding.{holdingTimeOf}
 use Rattle.budget.specs.Budget.{passes}
 use Rattle.candidates.specs.declared.Pair.{Pair}
+use Rattle.candidates.specs.Candidates.{shownCeiling}
 use Rattle.candidates.specs.Statement.{Permitted, Candidate}
 
 pub record LockHolding (ts : List Task) (l r w : ℕ) : Type 0 where
@@ -60,6 +62,11 @@ pub record LeastPassing (P : ℕ) (ts : List Task) (m : ℕ) (σ : Setting) (Q :
   pub passing : Passes P ts m σ Q
   pub least : (R : ℕ) → 1 ≤ R → Passes P ts m σ R → Q ≤ R
 
+pub record ShownAt (ts : List Task) (x l r : ℕ) : Type 0 where
+  pub permitted : PermittedAt ts l r
+  pub most : permitted .time ≤ x
+  pub lowest : (q : ℕ) (p : PermittedAt ts l q) → p .time ≤ x → r ≤ q
+
 pub record LocalTest : Type 0 where
   -- a setting is permitted if each lock's w exists and is at most the smallest deadline among its users
   pub permitted : (ts : List Task) (m : ℕ) (σ : Setting) → Permitted ts m σ ↔ ((l : ℕ) → 1 ≤ l → l ≤ m → PermittedAt ts l (σ l))
@@ -71,3 +78,5 @@ pub record LocalTest : Type 0 where
   pub budget : (P : ℕ) (ts : List Task) (m : ℕ) (σ : Setting) (Q : ℕ) → (passes P ts m σ Q ≡ true) ↔ Passes P ts m σ Q
   -- a candidate is a permitted setting's X with its least passing Q
   pub candidate : (P : ℕ) (ts : List Task) (m : ℕ) (c : Pair) → Candidate P ts m c ↔ ((σ : Setting) × Permitted ts m σ × (holdingTimeOf ts m σ ≡ c .holding) × LeastPassing P ts m σ (c .budget))
+  -- the ceilings shown are, lock by lock, the lowest whose w is at most X and permitted, where there is one
+  pub shown : (ts : List Task) (x l r : ℕ) (p : PermittedAt ts l r) → p .time ≤ x → ShownAt ts x l (shownCeiling ts x l)

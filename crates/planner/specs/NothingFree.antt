@@ -13,7 +13,7 @@ use Rattle.plan_file.specs.Above.{FilePart}
 use Rattle.answers.specs.declared.Planned.{Planned}
 use Rattle.answers.specs.Answers.{PlanAnswered}
 use Rattle.planner.specs.Weighing.{WeighedIs}
-use Rattle.planner.specs.LocalTest.{LockHolding, PartHolding, BlockingIs, LeastPassing}
+use Rattle.planner.specs.LocalTest.{LockHolding, PartHolding, BlockingIs, LeastPassing, ShownAt}
 use Rattle.planner.specs.Numbers.{KeptIs}
 use Rattle.planner.specs.Demand1.{Demand1}
 use Rattle.planner.specs.Demand3.{Printed, Demanded, Demand3}
@@ -34,3 +34,5 @@ pub record NothingFree : Type 1 where
   pub holding : (ts : List Task) (m : ℕ) (σ : Setting) (X Y : ℕ) → PartHolding ts m σ X → PartHolding ts m σ Y → X ≡ Y
   pub blocking : (m : ℕ) (σ : Setting) (lower : List Task) (b c : ℕ) → BlockingIs m σ lower b → BlockingIs m σ lower c → b ≡ c
   pub budget : (P : ℕ) (ts : List Task) (m : ℕ) (σ : Setting) (Q R : ℕ) → LeastPassing P ts m σ Q → LeastPassing P ts m σ R → Q ≡ R
+  -- and one ceiling shown of a lock
+  pub shown : (ts : List Task) (x l q r : ℕ) → ShownAt ts x l q → ShownAt ts x l r → q ≡ r
