@@ -2,6 +2,7 @@
 -- Assumes nothing.
 use Rattle.planner.specs.NothingFree.{NothingFree}
 use Rattle.planner.proofs.LocalTest.{lock-holding-settled, holding-settled, blocking-settled, budget-settled, shown-settled}
+use Rattle.planner.proofs.SystemTest.{bound-settled, row-settled, load-settled}
 use Rattle.planner.proofs.Weighing.{weighed-settled}
 use Rattle.planner.proofs.KeptList.{kept-settled}
 use Rattle.planner.proofs.Settled.{text-settled, answer-settled, plan-settled}
@@ -18,4 +19,6 @@ nothing-free = record {
   blocking = λ m σ lower b c h k. blocking-settled h k;
   budget = λ P ts m σ Q R h k. budget-settled h k;
   shown = λ ts x l q r h k. shown-settled h k;
+  bound = λ rows i b c h k. bound-settled h k;
+  load = λ rows b c i j h k. (load-settled h k, row-settled h k);
 }

@@ -3,6 +3,7 @@
 use Prim.Native.Nat.{ℕ}
 use mathlib.Core.Path.{_≡_}
 use mathlib.Core.List.{List}
+use Rattle.least.specs.declared.Frac.{Frac}
 use Rattle.refusal.specs.Questions.{Answer}
 use Rattle.task_set.specs.declared.Task.{Task}
 use Rattle.task_set.specs.Blocking.{Setting}
@@ -12,6 +13,7 @@ use Rattle.load.specs.declared.Weighed.{Weighed}
 use Rattle.plan_file.specs.Above.{FilePart}
 use Rattle.answers.specs.declared.Planned.{Planned}
 use Rattle.answers.specs.Answers.{PlanAnswered}
+use Rattle.planner.specs.SystemTest.{BoundIs, LoadIs}
 use Rattle.planner.specs.Weighing.{WeighedIs}
 use Rattle.planner.specs.LocalTest.{LockHolding, PartHolding, BlockingIs, LeastPassing, ShownAt}
 use Rattle.planner.specs.Numbers.{KeptIs}
@@ -36,3 +38,6 @@ pub record NothingFree : Type 1 where
   pub budget : (P : ℕ) (ts : List Task) (m : ℕ) (σ : Setting) (Q R : ℕ) → LeastPassing P ts m σ Q → LeastPassing P ts m σ R → Q ≡ R
   -- and one ceiling shown of a lock
   pub shown : (ts : List Task) (x l q r : ℕ) → ShownAt ts x l q → ShownAt ts x l r → q ≡ r
+  -- and one bound of a row, one load of a choice, and one row that has it
+  pub bound : (rows : List Row) (i : ℕ) (b c : Frac) → BoundIs rows i b → BoundIs rows i c → b ≡ c
+  pub load : (rows : List Row) (b c : Frac) (i j : ℕ) → LoadIs rows b i → LoadIs rows c j → (b ≡ c) × (i ≡ j)
