@@ -84,8 +84,8 @@ def check_statements(top):
 
 def check_uses(top):
     """What a pinned page declares is taken from that page and from no other place, on the pinned pages and in the proofs of what they say."""
-    whole = whole_pages(top)
-    homes = {name: page for page in [*whole, *NAMED] for name, _ in statements(source(top / page)) if name[0].isupper() and '.' not in name}
+    whole = [page for page in whole_pages(top) if (top / page).exists()]
+    homes = {name: page for page in [*whole, *filter(lambda page: (top / page).exists(), NAMED)] for name, _ in statements(source(top / page)) if name[0].isupper() and '.' not in name}
     proofs = [path for crate in sorted({page.split('/')[1] for page in whole}) for path in sorted((top / 'crates' / crate / 'proofs').rglob('*.antt'))]
     for path in [*(top / page for page in whole), *proofs]:
         for module, items in re.findall(r'\buse (\S+?)\.(\{[^}]*\}|\w+$)', source(path), re.M):
