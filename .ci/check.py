@@ -7,6 +7,9 @@ import re
 import sys
 from pathlib import Path
 
+sys.dont_write_bytecode = True
+from statements import check_quotes, check_statements, check_uses, source
+
 # What a caller may ask with any input: what planner passes on, what planner_c exports, and what the program prints.
 OPERATIONS = {
     'planning::plan', 'inquiries::candidates', 'inquiries::name', 'inquiries::name_outcome', 'inquiries::name_stretch',
@@ -20,6 +23,10 @@ THEOREMS = [
     ('planner', 'demand-2', 'Demand2'),
     ('planner', 'demand-3', 'Demand3 PlanAnswered'),
     ('planner', 'demand-3-in-words', 'Demand3InWords PlanAnswered'),
+    ('planner', 'every-refusal', 'EveryRefusal'),
+    ('planner', 'every-number', 'EveryNumber'),
+    ('planner', 'local-test', 'LocalTest'),
+    ('planner', 'system-test', 'SystemTest'),
     ('planner', 'nothing-free', 'NothingFree'),
     ('examples', 'examples', 'AllHold table'),
     ('examples', 'all-shut-out', 'AllShutOut'),
@@ -33,16 +40,10 @@ def crates(top):
     return [line.split(':')[0].strip() for line in lines if line.strip()]
 
 
-def source(path):
-    """A file's text without its comments."""
-    mark = '--' if path.suffix == '.antt' else '//'
-    return re.sub(rf'(^|\s){mark}.*', r'\1', path.read_text(), flags=re.M)
-
-
 # ---- contracts
 
-def behind_brace(text, at):
-    """The place behind the brace that closes the one at `at`."""
+def after_brace(text, at):
+    """The place after the brace that closes the one at `at`."""
     depth = 0
     for i in range(at, len(text)):
         depth += {'{': 1, '}': -1}.get(text[i], 0)
@@ -52,16 +53,22 @@ def behind_brace(text, at):
 
 
 def signatures(text):
-    """(name, the words of its clauses) of each public function: clauses stand between the result and the body, each with its braces."""
+    """(name, its clauses) of each public function: clauses are between the result and the body, each a word and a statement in braces."""
     for fn in re.finditer(r'\bpub\s+(?:extern\s+"C"\s+|[a-z]+\s+)?fn\s+(\w+)', text):
-        words, at = [], fn.end()
+        clauses, at = [], fn.end()
         while (brace := text.find('{', at)) >= 0:
             clause = re.search(r'\b(requires|ensures)(?:\s+\w+)?\s*$', text[at:brace])
             if not clause:
                 break
-            words.append(clause[1])
-            at = behind_brace(text, brace)
-        yield fn[1], words
+            at = after_brace(text, brace)
+            clauses.append((clause[1], text[brace + 1:at - 1]))
+        yield fn[1], clauses
+
+
+def says_nothing(statement):
+    """Whether a clause has a statement that is true of everything: `Unit`, `⊤`, or the same on both sides."""
+    pure = re.findall(r'⌜(.*?)⌝', statement, re.S) or [re.sub(r'^\s*(?:λ[^.]*\.)?', '', statement)]
+    return any(re.fullmatch(r'[\s()]*(?:Unit|⊤|([^≡]*?)\s*≡\s*\1)?[\s()]*', said) for said in pure)
 
 
 def public(top, name):
@@ -70,7 +77,7 @@ def public(top, name):
 
 
 def check_contracts(top):
-    """Every public function has an `ensures`; the operations, which are those of OPERATIONS, have no `requires`."""
+    """Every public function has an `ensures`, and each says something; the operations, which are those of OPERATIONS, have no `requires`."""
     offered = set()
     for use in re.findall(r'^\s*pub use ([^;]*);', source(top / 'crates' / 'planner' / 'src' / 'lib.rt'), re.M):
         if not re.fullmatch(r'\w+::\w+', use):
@@ -83,11 +90,13 @@ def check_contracts(top):
         yield f'{name}: ' + ('an operation that .ci/check.py does not name' if name in offered else 'named by .ci/check.py, but no operation')
     seen = set()
     for crate in crates(top):
-        for fn, words in public(top, crate):
-            name = f'{crate}::{fn}'
+        for fn, clauses in public(top, crate):
+            name, words = f'{crate}::{fn}', [word for word, _ in clauses]
             seen.add(name)
             if 'ensures' not in words:
                 yield f'{name}: a public function without an ensures'
+            if any(word == 'ensures' and says_nothing(statement) for word, statement in clauses):
+                yield f'{name}: an ensures that says nothing'
             if name in OPERATIONS and 'requires' in words:
                 yield f'{name}: an operation with a requires'
     for name in sorted(OPERATIONS - seen):
@@ -271,7 +280,9 @@ def check_tests(top):
             yield f'tests/tests/{path.name}: no test, or one that is ignored'
 
 
-CHECKS = [check_contracts, check_trace, check_edits, check_shut_outs, check_theorems, check_table, check_example_a, check_verdicts, check_tests]
+CHECKS = [
+    check_contracts, check_trace, check_statements, check_uses, check_quotes, check_edits, check_shut_outs, check_theorems, check_table, check_example_a, check_verdicts, check_tests,
+]
 
 if __name__ == '__main__':
     top = Path(__file__).resolve().parent.parent

@@ -11,6 +11,7 @@ from pathlib import Path
 
 sys.dont_write_bytecode = True
 import check
+import statements
 
 HERE = Path(__file__).resolve().parent
 LEAST = '''// `ensures { .. }` in a comment is no clause.
@@ -58,7 +59,29 @@ TRACE = '''| mark | definition | theorem or contract | test |
 |---|---|---|---|
 | I1 | `least ceilDiv` | – | `least must-fail/down` |
 | F12 | – | `planning plan` | `docs/PAPER-01.md`, `must-fail/` |
+| D1 | `planner Demand1` | – | – |
 '''
+DEMAND = """-- Demand 1 as a statement.
+use Rattle.answers.specs.Answers.{HandedOver}
+
+abbrev pub OfTheFile : Refusal → Type 0
+OfTheFile r = refusalNumber r ≤ 9
+
+pub record Demand1 (Promise : List ℕ → Type 0) : Type 0 where
+  -- a listing or a refusal
+  pub plan : (s : List ℕ) → Promise s →
+      Listing s ⊎ Refusal s
+  pub untouched : (s : List ℕ) → Unwritten s
+
+pub record Demand3 : Type 0 where
+  pub untouched : (s : List ℕ) → Unwritten s
+"""
+HANDED = """pub planOf : List ℕ → ℕ
+
+pub record HandedOver (r : Planned) : Type 0 where
+  pub result : r ≡ planned
+  pub bytes : Written r
+"""
 VERDICT = 'logic=proved functions=2 sum=0 native=nat,char,string logic-built=trusted libraries-built=trusted\n'
 
 
@@ -86,12 +109,20 @@ def right_tree():
         'crates/examples/specs/Table.antt': 'abbrev pub table : List Example\ntable =\n    ' + '    ∷ '.join(rows) + '    ∷ []\n\ninfixr 60 _and_\n',
         'crates/plan/src/main.rt': 'fn main() {\n}\n',
         'README.md': 'A file:\n\npart\tcard\t20\nend\n\nits plan:\n\nload\tcard\n',
-        'docs/PAPER-01.md': '- I1. Times are whole ticks.\n- F12. A name.\n',
+        'crates/planner/specs/Demand1.antt': DEMAND,
+        'crates/answers/specs/Answers.antt': HANDED,
+        'crates/answers/specs/Choice.antt': 'pub record Choice : Type 0 where\n  pub rows : List Row\n',
+        'crates/examples/specs/WrongPlanners.antt': 'use Rattle.planner.specs.Demand1.{Demand1, Demand3}\nabbrev pub ShutOut : Type 0\nShutOut = Demand3 → ⊥\n',
+        'docs/PAPER-01.md': '- I1. Times are whole ticks.\n- F12. A name.\n- D1. Demand 1: Whoever asks gets an answer. A refusal writes nothing.\n',
         'docs/TRACE.md': TRACE,
         'include/planner.h': '',
         'tests/src/library.rs': '',
         'tests/tests/library.rs': '#[test]\nfn plans() {}\n',
     }
+    files['docs/DEMANDS.md'] = '> Whoever asks gets an answer.\n\n> A refusal writes nothing.\n'
+    for page in ['crates/planner/specs/Demand1.antt', *statements.PAGES, *statements.NAMED]:
+        text = files[page].replace('pub planOf : List ℕ → ℕ\n', '').replace('→\n      Listing', '→ Listing')
+        files['docs/DEMANDS.md'] += f'\n`{page}`\n\n```\n{text}```\n'
     for crate, name, says in check.THEOREMS:
         path = f'crates/{crate}/proofs/Theorems.antt'
         files[path] = files.get(path, '') + f'pub {name} : {says}\n{name} = refl\n'
@@ -117,6 +148,8 @@ def right_tree():
 
 # Each slip: the check that must report it, a part of what it says, the file, and what stands there in place of what (nothing in place of a whole file: the file is
 # removed; something in place of nothing: it stands at the end).
+DEMAND_1 = 'crates/planner/specs/Demand1.antt'
+CLAUSE = '    ensures result { λ r. ⌜ r ≡ ceilDiv t period ⌝ }'
 LOG, DOWN, STEP = 'target/must-fail/planning/plan_low/.log', 'target/must-fail/least/down/.log', 'target/must-fail/least/step/.log'
 SLIPS = [
     (check.check_contracts, 'least::anything: a public function without', 'crates/least/src/lib.rt', '', BARE),
@@ -134,6 +167,14 @@ SLIPS = [
     (check.check_contracts, 'planning::plan: named by .ci/check.py, but no operation', 'crates/planner/src/lib.rt', 'pub use planning::plan;\n', ''),
     (check.check_contracts, 'planner: `pub use planning::{plan, half}`', 'crates/planner/src/lib.rt', 'planning::plan;', 'planning::{plan, half};'),
     (check.check_contracts, 'least::ceil_div: an operation that .ci/check.py does not name', 'crates/planner/src/lib.rt', '', 'pub use least::ceil_div;\n'),
+    (check.check_contracts, 'least::ceil_div: a public function without', 'crates/least/src/lib.rt', CLAUSE, f'    /* {CLAUSE} */'),
+    (check.check_contracts, 'least::ceil_div: a public function without', 'crates/least/src/lib.rt', CLAUSE, f'    /* /* both */\n{CLAUSE} */'),
+    (check.check_contracts, 'least::anything: a public function without', 'crates/least/src/lib.rt', '', f'const OPEN: &str = "/*";\n{BARE}'),
+    (check.check_contracts, 'least::ceil_div: an ensures that says nothing', 'crates/least/src/lib.rt', 'r ≡ ceilDiv t period', 'Unit'),
+    (check.check_contracts, 'least::ceil_div: an ensures that says nothing', 'crates/least/src/lib.rt', 'r ≡ ceilDiv t period', 'ceilDiv t period ≡ ceilDiv t period'),
+    (check.check_contracts, 'least::ceil_div: an ensures that says nothing', 'crates/least/src/lib.rt', '⌜ r ≡ ceilDiv t period ⌝', '⊤'),
+    (check.check_contracts, 'planning::plan: an ensures that says nothing', 'crates/planning/src/lib.rt', '⌜ r ≡ a ⌝', '⌜ (r ≡ r) ⌝'),
+    (check.check_trace, 'the crate least declares no ceilDiv', 'crates/least/specs/Round.antt', 'pub ceilDiv : ℕ → ℕ\n', '{-\npub ceilDiv : ℕ → ℕ\n{- both -} -}\n'),
     (check.check_trace, 'the crate least declares no floorDiv', 'docs/TRACE.md', 'ceilDiv', 'floorDiv'),
     (check.check_trace, 'the crate least declares no ceilDiv', 'crates/least/specs/Round.antt', 'pub ceilDiv', '-- pub ceilDiv'),
     (check.check_trace, 'the crate least declares no must-fail/down', 'crates/least/must-fail/down.edit', None, None),
@@ -142,7 +183,28 @@ SLIPS = [
     (check.check_trace, 'sentence F12 has no entry', 'docs/TRACE.md', '| F12 |', '| F13 |'),
     (check.check_trace, 'the entry F13 is of no sentence', 'docs/TRACE.md', '| F12 |', '| F13 |'),
     (check.check_trace, 'the entry of sentence I1 is empty', 'docs/TRACE.md', '`least ceilDiv` | – | `least must-fail/down`', '– | – | –'),
-    (check.check_trace, 'no sentence with a mark', 'docs/PAPER-01.md', '- I1. Times are whole ticks.\n- F12. A name.\n', 'Times.\n'),
+    (check.check_trace, 'no sentence with a mark', 'docs/PAPER-01.md', '- I1. Times are whole ticks.\n- F12. A name.\n- D1. ', 'Times.\n'),
+    (check.check_statements, f'DEMANDS.md: Demand1.untouched is not so on {DEMAND_1}', DEMAND_1, '⊎ Refusal s\n  pub untouched : (s : List ℕ) → Unwritten s\n', '⊎ Refusal s\n'),
+    (check.check_statements, f'DEMANDS.md: Demand1.plan is not so on {DEMAND_1}', DEMAND_1, '⊎ Refusal s', '⊎ Unit'),
+    (check.check_statements, f'{DEMAND_1}: Demand1.plan is not so in docs/DEMANDS.md', DEMAND_1, '⊎ Refusal s', '⊎ Unit'),
+    (check.check_statements, f'DEMANDS.md: Demand1.plan is not so on {DEMAND_1}', DEMAND_1, '  pub plan :', '  -- pub plan :'),
+    (check.check_statements, f'DEMANDS.md: OfTheFile is not so on {DEMAND_1}', DEMAND_1, 'OfTheFile r = refusalNumber r ≤ 9\n', 'OfTheFile r = {- refusalNumber -} r ≤ 9\n'),
+    (check.check_statements, f'{DEMAND_1}: OfTheFile is not so in', DEMAND_1, 'refusalNumber r ≤ 9\n', 'refusalNumber r ≤ 9\nOfTheFile r = Unit\n'),
+    (check.check_statements, f'DEMANDS.md: Demand3.untouched is not so on {DEMAND_1}', DEMAND_1, 'pub record Demand3 : Type 0 where\n', 'abbrev pub Demand3 : Type 0\nDemand3 = Unit\n\npub record Spare : Type 0 where\n'),
+    (check.check_statements, f'{DEMAND_1}: Demand3.unread is not so in', DEMAND_1, '', '  pub unread : ℕ\n'),
+    (check.check_statements, f'{DEMAND_1}: Demand4 is not so in', DEMAND_1, '', '\nabbrev pub Demand4 : Type 0\nDemand4 = Unit\n'),
+    (check.check_statements, f'DEMANDS.md: Demand1.plan is not so on {DEMAND_1}', DEMAND_1, None, None),
+    (check.check_statements, 'DEMANDS.md: HandedOver.bytes is not so on', 'crates/answers/specs/Answers.antt', '  pub bytes : Written r\n', ''),
+    (check.check_statements, 'Answers.antt: HandedOver.more is not so in', 'crates/answers/specs/Answers.antt', '', '  pub more : ℕ\n'),
+    (check.check_statements, 'Table.antt: table is not so in', 'crates/examples/specs/Table.antt', 'at "E" (refuses [] 0 1)', 'at "E" (refuses [] 0 2)'),
+    (check.check_statements, 'DEMANDS.md: a block with no page named before it', 'docs/DEMANDS.md', f'`{DEMAND_1}`\n', 'A page:\n'),
+    (check.check_statements, f'DEMANDS.md: pub is not so on {DEMAND_1}', 'docs/DEMANDS.md', f'`{DEMAND_1}`\n\n```\n', f'`{DEMAND_1}`\n\n```\n  pub plan : ℕ\n'),
+    (check.check_uses, f'{DEMAND_1}: HandedOver is not that of crates/answers/specs/Answers.antt', DEMAND_1, 'answers.specs.Answers', 'answers.specs.Weak'),
+    (check.check_uses, f'WrongPlanners.antt: Demand3 is not that of {DEMAND_1}', 'crates/examples/specs/WrongPlanners.antt', 'Demand3}', 'Demand1 as Demand3}'),
+    (check.check_uses, f'Theorems.antt: Demand1 is not that of {DEMAND_1}', 'crates/planner/proofs/Theorems.antt', '', 'use Rattle.planner.specs.Weak.Demand1\n'),
+    (check.check_quotes, 'no demand has the words: A refusal writes little', 'docs/DEMANDS.md', 'writes nothing', 'writes little'),
+    (check.check_quotes, 'of D1 is not quoted: 1: . A refusal writes nothing', 'docs/DEMANDS.md', '> A refusal writes nothing.\n', ''),
+    (check.check_quotes, 'docs/PAPER-01.md: no demand', 'docs/PAPER-01.md', '- D1. ', '- '),
     (check.check_edits, 'planning/plan_low: no log', LOG, None, None),
     (check.check_edits, 'planning/plan_low: its comment does not say', 'crates/planning/must-fail/plan_low.edit', 'must break', 'breaks'),
     (check.check_edits, 'planning/plan_low: its comment does not say', 'crates/planning/must-fail/plan_low.edit', '`plan`', 'the plan'),
@@ -170,6 +232,8 @@ SLIPS = [
     (check.check_theorems, 'no theorem `demand-3 : Demand3 PlanAnswered`', 'crates/planner/proofs/Theorems.antt', 'pub demand-3 : Demand3 PlanAnswered', 'pub demand-3 : Demand3 other'),
     (check.check_theorems, 'no theorem `demand-2 : Demand2`', 'crates/planner/proofs/Theorems.antt', 'demand-2 : Demand2\n', 'demand-2 : Demand2 → Demand2\n'),
     (check.check_theorems, 'no theorem `demand-1 : Demand1 PlanAnswered`', 'crates/planner/proofs/Theorems.antt', 'pub demand-1', '-- pub demand-1'),
+    (check.check_theorems, 'no theorem `every-refusal : EveryRefusal`', 'crates/planner/proofs/Theorems.antt', 'every-refusal : EveryRefusal\n', 'every-refusal : Unit\n'),
+    (check.check_theorems, 'no theorem `local-test : LocalTest`', 'crates/planner/proofs/Theorems.antt', 'pub local-test : LocalTest\n', '{-\npub local-test : LocalTest\n-}\n'),
     (check.check_theorems, 'no theorem `examples : AllHold table`', 'crates/examples/proofs/Theorems.antt', 'AllHold table\n', 'AllHold short\n'),
     (check.check_theorems, 'table, of which the theorem examples speaks', 'crates/examples/proofs/Theorems.antt', '', 'abbrev table : List Example\ntable = []\n'),
     (check.check_table, 'the rows of table are A B', 'crates/examples/specs/Table.antt', '    ∷ at "K" (refuses [] 4 1)\n', ''),
@@ -196,7 +260,8 @@ class Checks(unittest.TestCase):
         folder = tempfile.TemporaryDirectory()
         cls.addClassCleanup(folder.cleanup)
         cls.top = Path(folder.name)
-        for path, text in {**right_tree(), '.ci/check.py': (HERE / 'check.py').read_text()}.items():
+        scripts = {f'.ci/{name}': (HERE / name).read_text() for name in ('check.py', 'statements.py')}
+        for path, text in {**right_tree(), **scripts}.items():
             (cls.top / path).parent.mkdir(parents=True, exist_ok=True)
             (cls.top / path).write_text(text)
 
@@ -250,7 +315,7 @@ echo "$asked" >>"$ASKED"
 '''
 COMMANDS = [
     'rt ci', 'rt fmt --check', 'python3 .ci/check_test.py', 'python3 .ci/check.py', 'rt staticlib planner_c',
-    'cargo test --release --offline --quiet --features library --manifest-path tests/Cargo.toml', 'run ',
+    'cargo test --release --offline --quiet --features library --manifest-path tests/Cargo.toml', 'run ', 'program ',
 ]
 
 
@@ -259,7 +324,7 @@ class Gate(unittest.TestCase):
         """.ci/run where `rt ci` does as told, one command fails, one is not there, and tee is another: status, last line, commands."""
         with tempfile.TemporaryDirectory() as folder:
             top = Path(folder)
-            for path in ('.ci/run', 'bin/rt', 'bin/python3', 'bin/cargo', 'tests/examples/run'):
+            for path in ('.ci/run', 'bin/rt', 'bin/python3', 'bin/cargo', 'tests/examples/run', 'tests/program'):
                 (top / path).parent.mkdir(parents=True, exist_ok=True)
                 (top / path).write_text((HERE / 'run').read_text() if path == '.ci/run' else FAKE)
                 (top / path).chmod(0o755)
@@ -274,7 +339,7 @@ class Gate(unittest.TestCase):
             return run.returncode, run.stdout.splitlines()[-1], asked
 
     def test_all_passes(self):
-        self.assertEqual(self.gate('echo 3 passed, 0 failed'), (0, '9 passed, 0 failed', COMMANDS))
+        self.assertEqual(self.gate('echo 3 passed, 0 failed'), (0, '10 passed, 0 failed', COMMANDS))
 
     def test_rt_ci_fails(self):
         for ci, last in [
@@ -299,7 +364,34 @@ class Gate(unittest.TestCase):
     def test_another_command_fails(self):
         for command in COMMANDS[1:]:
             with self.subTest(command=command):
-                self.assertEqual(self.gate('echo 3 passed, 0 failed', failing=command), (1, '8 passed, 1 failed', COMMANDS))
+                self.assertEqual(self.gate('echo 3 passed, 0 failed', failing=command), (1, '9 passed, 1 failed', COMMANDS))
+
+
+class Program(unittest.TestCase):
+    """tests/program with a stand-in for the program, where each case must come back as it is."""
+    def program(self, stand_in, names='short\nlong\n', printed='== short\nend\n== long\n' + 'end\n' * 99):
+        with tempfile.TemporaryDirectory() as folder:
+            top = Path(folder)
+            files = {'args': names, 'stdout': printed, 'data/short': 'end\n', 'data/long': 'end\n' * 99}
+            files = {f'crates/cases/{path}': text for path, text in files.items()} | {'tests/program': (HERE.parent / 'tests' / 'program').read_text()}
+            for path, text in {**files, **({'target/bin/plan': f'#!/bin/sh\n{stand_in}\n'} if stand_in else {})}.items():
+                (top / path).parent.mkdir(parents=True, exist_ok=True)
+                (top / path).write_text(text)
+                (top / path).chmod(0o755)
+            return subprocess.run([sys.executable, top / 'tests' / 'program'], capture_output=True).returncode
+
+    def test_the_right_one_passes(self):
+        self.assertEqual(self.program('cat'), 0)
+
+    def test_a_wrong_one_fails(self):
+        for stand_in in ['echo end', 'cat; echo', 'cat; exit 3', 'head -c 200', 'exec dd bs=32769 count=1 2>/dev/null', 'true', '']:
+            with self.subTest(stand_in=stand_in):
+                self.assertEqual(self.program(stand_in), 1)
+
+    def test_wrong_cases_fail(self):
+        for names, printed in [('', ''), ('short\n', ''), ('', '== short\nend\n'), ('short\nlong\n', '== short\nend\n'), ('short\n', '== short\nend \n')]:
+            with self.subTest(names=names, printed=printed):
+                self.assertEqual(self.program('cat', names, printed), 1)
 
 
 if __name__ == '__main__':

@@ -1,0 +1,112 @@
+"""docs/DEMANDS.md beside the pages that it quotes: no statement of theirs is dropped, weakened or added unless the document says so too."""
+import re
+
+DOCUMENT = 'docs/DEMANDS.md'
+# The pages that must be in the document: those of crates/planner/specs, these, and of the others what is named.
+PAGES = ['crates/answers/specs/Choice.antt', 'crates/examples/specs/Table.antt', 'crates/examples/specs/Files.antt', 'crates/examples/specs/WrongPlanners.antt']
+NAMED = {'crates/answers/specs/Answers.antt': ['planned', 'bufferAfter', 'HandedOver', 'PlanAnswered']}
+
+
+def without_comments(text, antt):
+    """A text without its comments. Block comments nest, in Rattle as in antt; a mark in a string is none."""
+    line, start, end = (r'(?<!\S)--', r'\{-', r'-\}') if antt else ('//', r'/\*', r'\*/')
+    outside, inside = re.compile(rf'("(?:\\.|[^"\\\n])*")|{line}.*|({start})'), re.compile(f'({start})|{end}')
+    kept, at, depth = [], 0, 0
+    while mark := (inside if depth else outside).search(text, at):
+        if depth:
+            depth += 1 if mark[1] else -1
+        else:
+            kept += [text[at:mark.start()], mark[1] or ' ']
+            depth = 1 if mark[2] else 0
+        at = mark.end()
+    return ''.join(kept) + ('' if depth else text[at:])
+
+
+def source(path):
+    """A file's text without its comments."""
+    return without_comments(path.read_text(), path.suffix == '.antt')
+
+
+# ---- statements
+
+def groups(text, margin=''):
+    """Each line that begins at the margin, with the lines after it that do not; also what is before the first of them."""
+    return [group for group in re.split(rf'^(?={margin}\S)', text, flags=re.M) if group.strip()]
+
+
+def statements(text):
+    """What a page or a block says, as {(name, words)}: the first line of a record or data type; each field or constructor, as `Type.field`; each definition with its
+    clauses. How the words are parted into lines makes no difference."""
+    found = []
+    for group in groups(text):
+        if re.match(r'(?:pub )?(?:use|mod) |infix', group):
+            continue
+        kind = re.match(r'(?:pub )?(?:record|data) (\S+)', group)
+        signature = re.match(r'(?:(?:unfoldable|abbrev|pub) )*(\S+)(?: \{[^}]*\})? :', group)
+        if kind:
+            head, where, body = (*re.split(r'(\bwhere\b)', group, maxsplit=1), '', '')[:3]
+            found.append([kind[1], head + where])
+            margin = re.match(r'\s*\n( +)|', body)[1] or ''
+            found += [[f'{kind[1]}.{field.split(" :")[0].replace("pub ", "").strip()}', field] for field in groups(body, margin)]
+        elif signature or group[0].isspace() or not found:
+            found.append([signature[1] if signature else group.split()[0], group])
+        else:
+            found[-1][1] += '\n' + group
+    return {(name, ' '.join(words.split())) for name, words in found}
+
+
+def blocks(text):
+    """The code blocks of the document, as (the page named on the line before, what the block says)."""
+    for page, block in re.findall(r'(?:^`(\S+\.antt)`:?\n\n?)?^```\w*\n(.*?)^```$', text, re.M | re.S):
+        yield page, statements(without_comments(block, True))
+
+
+def whole_pages(top):
+    """The pages of which every statement must be in the document."""
+    return [*PAGES, *(str(path.relative_to(top)) for path in (top / 'crates/planner/specs').rglob('*.antt') if path.name != 'Lib.antt')]
+
+
+def check_statements(top):
+    """Every statement in docs/DEMANDS.md is on the page that is named before it, word for word, and every statement of the pinned pages is in the document."""
+    quoted, whole = {}, whole_pages(top)
+    for page, said in blocks((top / DOCUMENT).read_text()):
+        if not page:
+            yield f'{DOCUMENT}: a block with no page named before it: {sorted(said)[:1]}'
+        quoted.setdefault(page, set()).update(said)
+    for page in sorted({*whole, *NAMED, *quoted} - {''}):
+        there = statements(source(top / page)) if (top / page).exists() else set()
+        wanted = {said for said in there if page in whole or said[0].split('.')[0] in NAMED.get(page, [])}
+        for name, words in sorted(quoted.get(page, set()) - there):
+            yield f'{DOCUMENT}: {name} is not so on {page}: {words}'
+        for name, words in sorted(wanted - quoted.get(page, set())):
+            yield f'{page}: {name} is not so in {DOCUMENT}: {words}'
+
+
+def check_uses(top):
+    """What a pinned page declares is taken from that page and from no other place, on the pinned pages and in the proofs of what they say."""
+    whole = [page for page in whole_pages(top) if (top / page).exists()]
+    homes = {name: page for page in [*whole, *filter(lambda page: (top / page).exists(), NAMED)] for name, _ in statements(source(top / page)) if name[0].isupper() and '.' not in name}
+    proofs = [path for crate in sorted({page.split('/')[1] for page in whole}) for path in sorted((top / 'crates' / crate / 'proofs').rglob('*.antt'))]
+    for path in [*(top / page for page in whole), *proofs]:
+        for module, items in re.findall(r'\buse (\S+?)\.(\{[^}]*\}|\w+$)', source(path), re.M):
+            for item in items.strip('{}').split(','):
+                name = item.split()[-1] if item.strip() else ''
+                _, crate, _, page = homes.get(name, '///').split('/')
+                if crate and not re.fullmatch(rf'Rattle.{crate}(?:·specs)?\.specs\.{page[:-5]} {name}', f'{module} {item.strip()}'):
+                    yield f'{path.relative_to(top)}: {name} is not that of {homes[name]}'
+
+
+def check_quotes(top):
+    """The quotes in docs/DEMANDS.md are the demands of docs/PAPER-01.md, whole: nothing is left of them without the quotes, and nothing of a quote is not theirs."""
+    demands = re.findall(r'^- (D\d)\. (.*)', (top / 'docs' / 'PAPER-01.md').read_text(), re.M)
+    quotes = [' '.join(quote.split()).strip(' .,:;…') for quote in re.findall(r'^> (.*)', (top / DOCUMENT).read_text(), re.M)]
+    for quote in quotes:
+        if not any(quote in demand for _, demand in demands):
+            yield f'{DOCUMENT}: no demand has the words: {quote}'
+    for mark, demand in demands:
+        covered = {at for quote in ['Demand', *quotes] for found in re.finditer(re.escape(quote), demand) for at in range(*found.span())}
+        rest = ''.join(' ' if at in covered else letter for at, letter in enumerate(demand))
+        if re.search(r'[a-z]', rest):
+            yield f'{DOCUMENT}: of {mark} is not quoted: {" ".join(rest.split())}'
+    if not demands:
+        yield 'docs/PAPER-01.md: no demand'
