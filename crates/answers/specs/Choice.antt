@@ -1,4 +1,5 @@
 -- The choices of a file, over every setting and every budget.
+--   WithoutBudget p     == no permitted setting of the part has a budget
 --   Chosen p r          == r is a row of the part p: its P, a budget that passes under a permitted setting, and that setting's X
 --   Choice ps rs        == the rows of a choice: its parts in file order; so it passes the local test
 --   PassingChoice ps rs == a choice that passes the system test too
@@ -24,6 +25,9 @@ pub record Budgeted (p : FilePart) (σ : Setting) (Q : ℕ) : Type 0 where
   pub some : 1 ≤ Q
   pub most : Q ≤ p .period
   pub passing : passes (p .period) (tasksIn p) (lockCount p) σ Q ≡ true
+
+abbrev pub WithoutBudget : FilePart → Type 0
+WithoutBudget p = (σ : Setting) (Q : ℕ) → Budgeted p σ Q → ⊥
 
 abbrev pub rowUnder : FilePart → Setting → ℕ → Row
 rowUnder p σ Q = row (p .period) Q (holdingTimeOf (tasksIn p) (lockCount p) σ)

@@ -28,8 +28,7 @@ use Rattle.plan_file.specs.Numbers.{lockCount, taskIn, tasksIn}
 use Rattle.plan_file.proofs.Fine.{FineFilePart}
 use Rattle.plan_file.proofs.FineTasks.{each-lock-used}
 use Rattle.answers.specs.Parts.{keptPairs}
-use Rattle.answers.specs.Choice.{Budgeted}
-use Rattle.planner.specs.Refusals.{WithoutBudget}
+use Rattle.answers.specs.Choice.{Budgeted, WithoutBudget}
 use Rattle.planner.specs.Numbers.{KeptIs}
 
 -- a relation between each element and each after it, by their numbers

@@ -34,8 +34,9 @@ use Rattle.plan_file.proofs.Reading.{read-refused-iff, read-answered-iff}
 use Rattle.plan_file.proofs.Refusals.{read-refused-to-nine}
 use Rattle.answers.specs.Parts.{keptPairs, keptRows}
 use Rattle.answers.specs.Answers.{planRows, planText, planQuestions, planParts, planOf, isPartNumber, candidatesOf, nameOf, supplyAnswer}
+use Rattle.answers.specs.Choice.{WithoutBudget}
 use Rattle.answers.proofs.PlanRows.{everyKept, keptChoices, text, refused-10, refused-11, planned-or-14, plan-parts}
-use Rattle.planner.specs.Refusals.{RefusedBehind, PartOf, NotAPart, WithoutBudget, SupplyFits, EveryRefusal}
+use Rattle.planner.specs.Refusals.{RefusedBehind, PartOf, NotAPart, SupplyFits, EveryRefusal}
 use Rattle.planner.proofs.Weighing.{weighed-outcome, not-iff, wrong-count-iff, bad-row-iff, no-time-iff}
 use Rattle.planner.proofs.KeptList.{no-budget-iff}
 

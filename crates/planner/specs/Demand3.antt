@@ -35,7 +35,7 @@ use Rattle.plan_file.specs.Reading.{readFile}
 use Rattle.listing.specs.Listing.{Share, ceilingsUnder, listingOf}
 use Rattle.answers.specs.declared.Planned.{Planned}
 use Rattle.answers.specs.Answers.{HandedOver}
-use Rattle.answers.specs.Choice.{Budgeted, rowUnder, Chosen, PassingChoice, FromKept}
+use Rattle.answers.specs.Choice.{Budgeted, WithoutBudget, rowUnder, Chosen, PassingChoice, FromKept}
 
 abbrev pub printedRows : List Share → List Row
 printedRows shares = map (λ s. s .row) shares
@@ -44,6 +44,7 @@ abbrev pub shownFor : FilePart → Share → Setting
 shownFor p s = shownCeiling (tasksIn p) (s .row .holding)
 
 pub record PrintedShare (p : FilePart) (s : Share) : Type 0 where
+  -- its name is the part's
   pub name : s .name ≡ p .name
   -- its locks, in order of first mention, at the ceilings shown for its X
   pub ceilings : s .ceilings ≡ ceilingsUnder (shownFor p s) 1 (lockNames p)
@@ -53,9 +54,11 @@ pub record PrintedShare (p : FilePart) (s : Share) : Type 0 where
   pub is : s .row ≡ rowUnder p (shownFor p s) (s .row .budget)
 
 pub record Printed (ps : List FilePart) (text : List ℕ) : Type 0 where
+  -- what is printed of each part, in file order
   pub shares : List Share
-  -- what a plan prints is one such choice with that choice's load
+  -- the text is their listing, byte for byte
   pub bytes : text ≡ listingOf shares
+  -- what a plan prints is one such choice, that passes the system test too, with that choice's load: the bounds of its rows
   pub choice : Each PrintedShare ps shares
   pub system : passesSystem (printedRows shares) ≡ true
   pub bounds : map (λ s. s .bound) shares ≡ boundsOf (printedRows shares)
@@ -67,13 +70,18 @@ pub record Printed (ps : List FilePart) (text : List ℕ) : Type 0 where
   pub greatest : (rs : List Row) → PassingChoice ps rs → Each FromKept ps rs → loadOf rs ⊑ loadOf (printedRows shares) → Each (λ s r. r .holding ≤ s .row .holding) shares rs
 
 pub record NoBudgetAt (ps : List FilePart) (j : ℕ) : Type 0 where
+  -- j is the number of a part
   pub from : 1 ≤ j
   pub to : j ≤ length ps
-  pub none : (σ : Setting) (Q : ℕ) → Budgeted (nthOr noPart j ps) σ Q → ⊥
+  -- no permitted setting of this part has a budget
+  pub none : WithoutBudget (nthOr noPart j ps)
+  -- every part before it has a row to choose
   pub first : (i : ℕ) → 1 ≤ i → i < j → (r : Row) × Chosen (nthOr noPart i ps) r
 
 pub data NoneToPlan (ps : List FilePart) : Refusal → Type 0 where
+  -- some part has no budget: 10 at the first of them
   ten : {j : ℕ} → NoBudgetAt ps j → NoneToPlan ps (NoBudget j)
+  -- every part has a row to choose, and no choice passes: 11
   eleven : ((i : ℕ) → 1 ≤ i → i ≤ length ps → (r : Row) × Chosen (nthOr noPart i ps) r) → ((rs : List Row) → PassingChoice ps rs → ⊥) → NoneToPlan ps NoChoice
 
 pub data Demanded (ps : List FilePart) (room : ℕ) : Answer (List ℕ) → Type 0 where

@@ -2,7 +2,6 @@
 --   RefusedBehind s questions r == the file s is refused with r by questions 1 to 9, or it is readable and r comes from the questions of its parts
 --   PartOf s k p     == the file s is readable, and p is its part k
 --   NotAPart s k     == the file s is readable, and k is not the number of a part
---   WithoutBudget p  == no permitted setting of the part has a budget
 --   SupplyFits P Q t == 1 ≤ Q ≤ P ≤ 65,535 and t ≤ 65,535
 --   EveryRefusal     == in which case each operation gives each refusal
 -- Assumes nothing.
@@ -19,7 +18,6 @@ use Rattle.refusal.specs.Limits.{numberLimit, rowLimit}
 use Rattle.refusal.specs.Questions.{Question}
 use Rattle.refusal.specs.Questions.Answer.{answered, refused}
 use Rattle.refusal.specs.FirstNo.{FirstNo}
-use Rattle.task_set.specs.Blocking.{Setting}
 use Rattle.load.specs.declared.Row.{Row}
 use Rattle.load.specs.declared.Rows.{Rows}
 use Rattle.load.specs.Weigh.{weighQuestions, weighOf, rowsOf, structQuestions, weighRows}
@@ -27,7 +25,7 @@ use Rattle.plan_file.specs.Above.{FilePart, noPart}
 use Rattle.plan_file.specs.Statement.{RefusedAt, AnsweredBy}
 use Rattle.answers.specs.Parts.{keptRows}
 use Rattle.answers.specs.Answers.{planRows, planText, planQuestions, planOf, candidateQuestions, candidatesOf, nameQuestions, nameOf, supplyQuestions, supplyAnswer}
-use Rattle.answers.specs.Choice.{Budgeted}
+use Rattle.answers.specs.Choice.{WithoutBudget}
 use Rattle.planner.specs.Weighing.{CountFits, BadRowAt, NoTimeAt}
 
 abbrev pub RefusedBehind : List ℕ → (List FilePart → List Question) → Refusal → Type 0
@@ -44,9 +42,6 @@ pub record NotAPart (s : List ℕ) (k : ℕ) : Type 0 where
   pub parts : List FilePart
   pub readable : AnsweredBy s parts
   pub none : 1 ≤ k → k ≤ length parts → ⊥
-
-abbrev pub WithoutBudget : FilePart → Type 0
-WithoutBudget p = (σ : Setting) (Q : ℕ) → Budgeted p σ Q → ⊥
 
 pub record SupplyFits (P Q t : ℕ) : Type 0 where
   pub budget-some : 1 ≤ Q
