@@ -121,6 +121,7 @@ def right_tree():
     }
     files['docs/DEMANDS.md'] = '> Whoever asks gets an answer.\n\n> A refusal writes nothing.\n'
     for page in ['crates/planner/specs/Demand1.antt', *statements.PAGES, *statements.NAMED]:
+        files.setdefault(page, f'abbrev pub word : Type 0\nword = {page.split("/")[1]}\n')
         text = files[page].replace('pub planOf : List ℕ → ℕ\n', '').replace('→\n      Listing', '→ Listing')
         files['docs/DEMANDS.md'] += f'\n`{page}`\n\n```\n{text}```\n'
     for crate, name, says in check.THEOREMS:

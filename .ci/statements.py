@@ -3,8 +3,17 @@ import re
 
 DOCUMENT = 'docs/DEMANDS.md'
 # The pages that must be in the document: those of crates/planner/specs, these, and of the others what is named.
-PAGES = ['crates/answers/specs/Choice.antt', 'crates/examples/specs/Table.antt', 'crates/examples/specs/Files.antt', 'crates/examples/specs/WrongPlanners.antt']
-NAMED = {'crates/answers/specs/Answers.antt': ['planned', 'bufferAfter', 'HandedOver', 'PlanAnswered']}
+PAGES = [
+    'crates/answers/specs/Choice.antt', 'crates/examples/specs/Table.antt', 'crates/examples/specs/Files.antt', 'crates/examples/specs/WrongPlanners.antt',
+    'crates/candidates/specs/Statement.antt', 'crates/plan_file/specs/Statement.antt', 'crates/refusal/specs/FirstNo.antt', 'crates/least/specs/Each.antt',
+]
+NAMED = {
+    'crates/answers/specs/Answers.antt': ['planned', 'bufferAfter', 'HandedOver', 'PlanAnswered'],
+    'crates/load/specs/Weigh.antt': ['RowFits'],
+    'crates/supply/specs/Signed.antt': ['larger', 'ceilOf', 'signedRound', 'signedAt', 'signedSupply'],
+}
+# The crates with the proofs of what the pages say.
+PROVERS = ['answers', 'planner', 'examples']
 
 
 def without_comments(text, antt):
@@ -83,10 +92,10 @@ def check_statements(top):
 
 
 def check_uses(top):
-    """What a pinned page declares is taken from that page and from no other place, on the pinned pages and in the proofs of what they say."""
+    """What a pinned page declares is taken from that page and from no other place, on the pinned pages and in the proofs of PROVERS."""
     whole = [page for page in whole_pages(top) if (top / page).exists()]
     homes = {name: page for page in [*whole, *filter(lambda page: (top / page).exists(), NAMED)] for name, _ in statements(source(top / page)) if name[0].isupper() and '.' not in name}
-    proofs = [path for crate in sorted({page.split('/')[1] for page in whole}) for path in sorted((top / 'crates' / crate / 'proofs').rglob('*.antt'))]
+    proofs = [path for crate in PROVERS for path in sorted((top / 'crates' / crate / 'proofs').rglob('*.antt'))]
     for path in [*(top / page for page in whole), *proofs]:
         for module, items in re.findall(r'\buse (\S+?)\.(\{[^}]*\}|\w+$)', source(path), re.M):
             for item in items.strip('{}').split(','):
