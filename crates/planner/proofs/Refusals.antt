@@ -36,6 +36,7 @@ use Rattle.answers.specs.Parts.{keptPairs, keptRows}
 use Rattle.answers.specs.Answers.{planRows, planText, planQuestions, planParts, planOf, isPartNumber, candidatesOf, nameOf, supplyAnswer}
 use Rattle.answers.specs.Choice.{WithoutBudget}
 use Rattle.answers.proofs.PlanRows.{everyKept, keptChoices, text, refused-10, refused-11, planned-or-14, plan-parts}
+use Rattle.planning.proofs.Answering.{plan-unread}
 use Rattle.planner.specs.Refusals.{RefusedBehind, PartOf, NotAPart, SupplyFits, EveryRefusal}
 use Rattle.planner.proofs.Weighing.{weighed-outcome, not-iff, wrong-count-iff, bad-row-iff, no-time-iff}
 use Rattle.planner.proofs.KeptList.{no-budget-iff}
@@ -185,13 +186,9 @@ module _ (P Q t : ℕ) where
       ((λ e. let h = iff .0 e in (h .0, no .0 (h .1))), λ h. iff .1 (h .0, no .1 (h .1)))
 
 -- question 14
-fits-or-14 : (text : List ℕ) (room : ℕ) (b : Bool) → leb (length text) room ≡ b → (cond b (answered text) (refused NoRoom) ≡ refused NoRoom) ↔ (room < length text)
-fits-or-14 text room true e = ((λ h. absurd (answered-not-refused h)), λ l. absurd (omega (arith, leb-true (length text) room e)))
-fits-or-14 text room false e = ((λ h. omega (arith, leb-false (length text) room e)), λ l. refl)
-
-plan-unread : (s : List ℕ) (r : Refusal) → readFile s ≡ refused r → (room : ℕ) → planOf s room ≡ refused r
-unfolding planOf whenAnswered
-plan-unread s r e room = rw e refl
+refused-14-iff : (text : List ℕ) (room : ℕ) (b : Bool) → leb (length text) room ≡ b → (cond b (answered text) (refused NoRoom) ≡ refused NoRoom) ↔ (room < length text)
+refused-14-iff text room true e = ((λ h. absurd (answered-not-refused h)), λ l. absurd (omega (arith, leb-true (length text) room e)))
+refused-14-iff text room false e = ((λ h. omega (arith, leb-false (length text) room e)), λ l. refl)
 
 module _ (s : List ℕ) (room : ℕ) where
   abbrev NoRoomFor : Type 0
@@ -205,8 +202,8 @@ module _ (s : List ℕ) (room : ℕ) where
 
       planned : (u : List ℕ) → ((n : ℕ) → planOf s n ≡ cond (leb (length u) n) (answered u) (refused NoRoom)) → (planOf s room ≡ refused NoRoom) ↔ NoRoomFor
       planned u are = (
-        (λ e. (u, are (length u) ∙ rw (le-leb (length u) (length u) (omega arith)) refl, fits-or-14 u room _ refl .0 (sym (are room) ∙ e))),
-        (λ h. are room ∙ fits-or-14 u room _ refl .1 (omega (arith, h .2, ap length (same (h .0) (h .1))))),
+        (λ e. (u, are (length u) ∙ rw (le-leb (length u) (length u) (omega arith)) refl, refused-14-iff u room _ refl .0 (sym (are room) ∙ e))),
+        (λ h. are room ∙ refused-14-iff u room _ refl .1 (omega (arith, h .2, ap length (same (h .0) (h .1))))),
       )
         where
           same : (x : List ℕ) → planOf s (length x) ≡ answered x → x ≡ u
