@@ -1,6 +1,6 @@
 // What the program prints of each file that the arguments name, behind a line with its name: 'stdout' has what that should be.
 use libc::STDOUT_FILENO;
-use scan::Span;
+use stretch::Span;
 
 fn print_answer(fd: i32) {
     let mut file = [0u8; 32769];
@@ -11,7 +11,7 @@ fn print_answer(fd: i32) {
         start: 0,
         len: p.count,
     };
-    io::write_all(STDOUT_FILENO, scan::bytes(&text, span));
+    io::write_all(STDOUT_FILENO, stretch::bytes(&text, span));
 }
 
 fn each(i: usize) {

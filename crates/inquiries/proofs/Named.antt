@@ -17,8 +17,8 @@ use Rattle.refusal.specs.declared.Refusal.the-variants.{BadHandSet}
 use Rattle.refusal.specs.declared.Outcome.the-variants.{Done}
 use Rattle.refusal.specs.Questions.{Answer, outcomeOf, whenAnswered, whenDone, firstNo}
 use Rattle.refusal.specs.Questions.Answer.{answered, refused}
-use Rattle.scan.specs.declared.Span.{Span}
-use Rattle.scan.specs.Scan.{bytesOf}
+use Rattle.stretch.specs.declared.Span.{Span}
+use Rattle.stretch.specs.Stretch.{bytesOf}
 use Rattle.plan_file.specs.Above.{noPart}
 use Rattle.plan_file.specs.Reading.{readFile}
 use Rattle.plan_file.specs.Entries.{noSpan}

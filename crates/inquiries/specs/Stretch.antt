@@ -14,9 +14,8 @@ use Rattle.refusal.specs.declared.Refusal.{Refusal}
 use Rattle.refusal.specs.declared.Outcome.the-variants.{Done, Refused}
 use Rattle.refusal.specs.Questions.{Answer}
 use Rattle.refusal.specs.Questions.Answer.{answered, refused}
-use Rattle.scan.specs.declared.Span.{Span}
-use Rattle.scan.specs.Scan.{bytesOf}
-use Rattle.scan.specs.Stretch.{StretchOf}
+use Rattle.stretch.specs.declared.Span.{Span}
+use Rattle.stretch.specs.Stretch.{bytesOf, StretchOf}
 use Rattle.plan_file.specs.Entries.{noSpan}
 use Rattle.plan_file.specs.Stretches.{nameSpans}
 use Rattle.answers.specs.Answers.{nameOf, nameBytes}

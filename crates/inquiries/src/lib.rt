@@ -4,7 +4,7 @@ use candidates::Kept;
 use candidates::Pair;
 use refusal::Outcome;
 use refusal::Refusal;
-use scan::Span;
+use stretch::Span;
 ghost use mathlib.Core.Path.{_≡_};
 ghost use mathlib.Core.Bool.{_&&_};
 ghost use lib.Dec.{leb};
@@ -76,7 +76,7 @@ pub fn name(file: &[u8], part: usize) -> &[u8]
 {
     let n = name_stretch(file, part);
     let span = n.span;
-    scan::stretch_of(file, span)
+    stretch::stretch_of(file, span)
 }
 
 fn refused_list(r: Refusal) -> CandidateList

@@ -13,8 +13,8 @@ use lib.ListN.{length}
 use Rattle.least.specs.declared.Frac.{Frac}
 use Rattle.least.specs.Lists.{joined}
 use Rattle.load.specs.declared.Row.{Row}
-use Rattle.scan.specs.declared.Span.{Span}
-use Rattle.scan.specs.Scan.{bytesOf}
+use Rattle.stretch.specs.declared.Span.{Span}
+use Rattle.stretch.specs.Stretch.{bytesOf}
 use Rattle.plan_file.specs.declared.Names.{Names}
 use Rattle.plan_file.specs.Entries.{FineNames, namesOf}
 use Rattle.listing.specs.Listing.{Ceiling, Share, ceilingLine}

@@ -2,14 +2,14 @@
 use least::Frac;
 use load::Row;
 use plan_file::Names;
-use scan::Span;
+use stretch::Span;
 ghost use mathlib.Core.Path.{_≡_};
 ghost use mathlib.Core.List.{[], _∷_};
 ghost use Prim.Native.Nat.{_+_, _^_, _≤_};
 ghost use lib.ListN.{length};
 ghost use Rattle.text.specs.Bytes.{lineOf};
 ghost use Rattle.text.specs.Decimal.{digitsOf};
-ghost use Rattle.scan.specs.Scan.{bytesOf};
+ghost use Rattle.stretch.specs.Stretch.{bytesOf};
 ghost use Rattle.plan_file.specs.Entries.{namesOf};
 ghost use Rattle.writer.specs.Written.{Written};
 ghost use Rattle.listing.specs.Listing.{ceilingLine, shareLine, shareLines, loadLine, refusedLine};
@@ -42,7 +42,7 @@ pub fn write_load(file: &[u8], name: Span, bound: Frac, out: &mut [u8], at: usiz
     requires { ⌜ at + length (loadLine (named (bytesOf (now file) name) bound)) ≤ length (now out) ⌝ }
     ensures { λ r. ⌜ Written at (loadLine (named (bytesOf (now (file .entry)) name) bound)) (now (out .entry)) (now (out .exit)) r ⌝ }
 {
-    let next = write_head(out, at, b"load", scan::bytes(file, name));
+    let next = write_head(out, at, b"load", stretch::bytes(file, name));
     write_last_two(out, next, bound.num, bound.den)
 }
 
@@ -86,7 +86,7 @@ fn write_ceilings(
     while i < n {
         let lock = span[i];
         let number = ceilings[i];
-        next = write_ceiling(out, next, scan::bytes(file, lock), number);
+        next = write_ceiling(out, next, stretch::bytes(file, lock), number);
         i += 1;
     }
     next
@@ -107,7 +107,7 @@ pub fn write_share(
     requires { ⌜ at + length (shareLines (shareFrom (now file) name row bound locks (now ceilings))) ≤ length (now out) ⌝ }
     ensures { λ r. ⌜ Written at (shareLines (shareFrom (now (file .entry)) name row bound locks (now (ceilings .entry)))) (now (out .entry)) (now (out .exit)) r ⌝ }
 {
-    let next = write_share_line(out, at, scan::bytes(file, name), row, bound);
+    let next = write_share_line(out, at, stretch::bytes(file, name), row, bound);
     write_ceilings(file, locks, ceilings, out, next)
 }
 
@@ -132,7 +132,7 @@ pub fn load_length(file: &[u8], name: Span, bound: Frac) -> usize
     requires { ⌜ length (now file) ≤ 2 ^ 32 ⌝ }
     ensures { λ r. ⌜ (r ≡ length (loadLine (named (bytesOf (now (file .entry)) name) bound))) × (r ≤ 2 ^ 33) ⌝ }
 {
-    let word = scan::bytes(file, name);
+    let word = stretch::bytes(file, name);
     6 + word.len() + bound_length(bound)
 }
 
@@ -165,7 +165,7 @@ fn ceilings_length(file: &[u8], locks: Names, ceilings: &[u64; 8]) -> usize
     while i < n {
         let lock = span[i];
         let number = ceilings[i];
-        total += ceiling_length(scan::bytes(file, lock), number);
+        total += ceiling_length(stretch::bytes(file, lock), number);
         i += 1;
     }
     total
@@ -184,6 +184,6 @@ pub fn share_length(
     requires { ⌜ length (now file) ≤ 2 ^ 32 ⌝ }
     ensures { λ r. ⌜ (r ≡ length (shareLines (shareFrom (now (file .entry)) name row bound locks (now (ceilings .entry))))) × (r ≤ 2 ^ 37) ⌝ }
 {
-    let line = share_line_length(scan::bytes(file, name), row, bound);
+    let line = share_line_length(stretch::bytes(file, name), row, bound);
     line + ceilings_length(file, locks, ceilings)
 }

@@ -3,7 +3,7 @@ use fields::Number;
 use plan_file::Entry;
 use plan_file::Names;
 use refusal::Refusal;
-use scan::Span;
+use stretch::Span;
 use task_set::Task;
 ghost use mathlib.Core.Path.{_≡_};
 ghost use Prim.Native.Nat.{_≤_};
@@ -38,14 +38,14 @@ pub fn ask_lock(
     if !allowed {
         return Entry::Refused(Refusal::Misplaced(line));
     }
-    if !fields::is_name(scan::bytes(s, name)) {
+    if !fields::is_name(stretch::bytes(s, name)) {
         return Entry::Refused(Refusal::BadName(line));
     }
     let j = plan_file::place_in(s, locks, name);
     if 1 <= use_at(last, j) {
         return Entry::Refused(Refusal::KnownName(line));
     }
-    match fields::read_number(scan::bytes(s, held)) {
+    match fields::read_number(stretch::bytes(s, held)) {
         Number::Malformed => Entry::Refused(Refusal::BadNumber(line)),
         Number::Is(c) => {
             if last.cost < c {

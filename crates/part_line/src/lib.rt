@@ -3,7 +3,7 @@ use fields::Number;
 use plan_file::Entry;
 use plan_file::Names;
 use refusal::Refusal;
-use scan::Span;
+use stretch::Span;
 ghost use mathlib.Core.Path.{_≡_};
 ghost use Rattle.plan_file.specs.Entries.{FineNames, partEntry};
 
@@ -17,14 +17,14 @@ pub fn ask_part(s: &[u8], line: u64, allowed: bool, parts: Names, name: Span, pe
     if !allowed {
         return Entry::Refused(Refusal::Misplaced(line));
     }
-    if !fields::is_name(scan::bytes(s, name)) {
+    if !fields::is_name(stretch::bytes(s, name)) {
         return Entry::Refused(Refusal::BadName(line));
     }
     let n = parts.count;
     if plan_file::place_in(s, parts, name) < n {
         return Entry::Refused(Refusal::KnownName(line));
     }
-    match fields::read_number(scan::bytes(s, period)) {
+    match fields::read_number(stretch::bytes(s, period)) {
         Number::Malformed => Entry::Refused(Refusal::BadNumber(line)),
         Number::Is(p) => {
             if PART_LIMIT <= n {

@@ -1,7 +1,7 @@
 // plan: reads a plan file from standard input and prints its listing, or `refused` with the number and the place.
 use libc::STDIN_FILENO;
 use libc::STDOUT_FILENO;
-use scan::Span;
+use stretch::Span;
 
 fn print_plan(file: &[u8]) {
     let p = console::print(file);
@@ -10,7 +10,7 @@ fn print_plan(file: &[u8]) {
         start: 0,
         len: p.count,
     };
-    io::write_all(STDOUT_FILENO, scan::bytes(&text, span));
+    io::write_all(STDOUT_FILENO, stretch::bytes(&text, span));
 }
 
 fn main() {

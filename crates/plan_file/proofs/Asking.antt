@@ -13,8 +13,8 @@ use Rattle.text.specs.Decimal.{valueOf}
 use Rattle.refusal.specs.declared.Refusal.the-variants.{Misplaced, BadName, KnownName, BadNumber, BadOrder, TooMany}
 use Rattle.refusal.specs.Limits.{lockLimit}
 use Rattle.refusal.specs.Questions.{firstNo}
-use Rattle.scan.specs.declared.Span.{Span}
-use Rattle.scan.specs.Scan.{bytesOf}
+use Rattle.stretch.specs.declared.Span.{Span}
+use Rattle.stretch.specs.Stretch.{bytesOf}
 use Rattle.fields.specs.declared.Number.the-variants.{Is, Malformed as MalformedNumber}
 use Rattle.fields.specs.Fields.{isName, isNumber, numberIn}
 use Rattle.task_set.specs.declared.Task.{Task as TaskNumbers}

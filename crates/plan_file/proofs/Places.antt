@@ -16,8 +16,8 @@ use Rattle.least.proofs.Lists.{some-pass, some-fail}
 use Rattle.text.specs.Bytes.{same, among, mention}
 use Rattle.text.proofs.Names.{mention-known, mention-new}
 use Rattle.refusal.specs.Limits.{lockLimit}
-use Rattle.scan.specs.declared.Span.{Span}
-use Rattle.scan.specs.Scan.{bytesOf}
+use Rattle.stretch.specs.declared.Span.{Span}
+use Rattle.stretch.specs.Stretch.{bytesOf}
 use Rattle.plan_file.specs.declared.Names.{Names}
 use Rattle.plan_file.specs.Entries.{noSpan, namesOf, FineNames, placeAmong}
 

@@ -9,8 +9,8 @@ use Rattle.least.specs.Lists.{pad, lastOr, onLast}
 use Rattle.least.proofs.Last.{last-snoc, last-on-last, map-on-last}
 use Rattle.text.specs.Bytes.{among, mention}
 use Rattle.text.specs.Decimal.{valueOf}
-use Rattle.scan.specs.declared.Span.{Span}
-use Rattle.scan.specs.Scan.{bytesOf}
+use Rattle.stretch.specs.declared.Span.{Span}
+use Rattle.stretch.specs.Stretch.{bytesOf}
 use Rattle.records.specs.Records.Record.{part, task, lock, end}
 use Rattle.plan_file.specs.declared.Seen.{Seen}
 use Rattle.plan_file.specs.Above.{FileLock, FileTask, FilePart, Above, noPart, nothingAbove, thisPart, thisTask, lockNames, withLock, withTasks, partsAfter, after}

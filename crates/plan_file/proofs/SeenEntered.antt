@@ -14,8 +14,8 @@ use Rattle.refusal.specs.declared.Refusal.{Refusal}
 use Rattle.refusal.specs.declared.Outcome.{Outcome}
 use Rattle.refusal.specs.declared.Outcome.the-variants.{Done, Refused}
 use Rattle.refusal.specs.Questions.{firstNo}
-use Rattle.scan.specs.declared.Span.{Span}
-use Rattle.scan.specs.Scan.{bytesOf}
+use Rattle.stretch.specs.declared.Span.{Span}
+use Rattle.stretch.specs.Stretch.{bytesOf}
 use Rattle.records.specs.declared.Shape.{Shape}
 use Rattle.records.specs.declared.Shape.the-variants.{Part as PartShape, Task as TaskShape, Lock as LockShape, End as EndShape, Unknown}
 use Rattle.records.specs.Records.{Record}

@@ -13,8 +13,8 @@ use Rattle.least.proofs.Pad.{length-pad}
 use Rattle.text.specs.Bytes.{same, among, mention}
 use Rattle.text.proofs.Bytes.{same-true}
 use Rattle.text.proofs.Names.{among-none, among-cons, mention-known, mention-new, Different, none, more}
-use Rattle.scan.specs.declared.Span.{Span}
-use Rattle.scan.specs.Scan.{bytesOf}
+use Rattle.stretch.specs.declared.Span.{Span}
+use Rattle.stretch.specs.Stretch.{bytesOf}
 use Rattle.plan_file.specs.declared.Names.{Names}
 use Rattle.plan_file.specs.Entries.{noSpan, noNames, FineNames, namesOf, placeAmong, withName, withLockName}
 use Rattle.plan_file.proofs.Places.{place-first, place-later, place-most, among-place, names-length}

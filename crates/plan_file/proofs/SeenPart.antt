@@ -9,8 +9,8 @@ use lib.ListN.{length, set, length-map}
 use Rattle.least.specs.Lists.{pad, lastOr, onLast, joined}
 use Rattle.least.proofs.Last.{last-snoc, last-on-last, map-on-last, snoc-each}
 use Rattle.text.specs.Bytes.{among, mention, distinctAfter}
-use Rattle.scan.specs.declared.Span.{Span}
-use Rattle.scan.specs.Scan.{bytesOf}
+use Rattle.stretch.specs.declared.Span.{Span}
+use Rattle.stretch.specs.Stretch.{bytesOf}
 use Rattle.task_set.specs.declared.Task.{Task}
 use Rattle.plan_file.specs.declared.Names.{Names}
 use Rattle.plan_file.specs.Above.{FileLock, FileTask, FilePart, noTask, lockMentions, lockNames, withLock, withTasks}

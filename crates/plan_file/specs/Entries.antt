@@ -18,8 +18,8 @@ use Rattle.refusal.specs.declared.Outcome.{Outcome}
 use Rattle.refusal.specs.declared.Outcome.the-variants.{Done, Refused}
 use Rattle.refusal.specs.declared.Refusal.the-variants.{Misplaced, BadRecord}
 use Rattle.refusal.specs.Questions.{ask, firstNo}
-use Rattle.scan.specs.declared.Span.{Span}
-use Rattle.scan.specs.Scan.{bytesOf}
+use Rattle.stretch.specs.declared.Span.{Span}
+use Rattle.stretch.specs.Stretch.{bytesOf}
 use Rattle.fields.specs.Fields.{isNumber}
 use Rattle.records.specs.declared.Shape.{Shape}
 use Rattle.records.specs.declared.Shape.the-variants.{Part as PartShape, Task as TaskShape, Lock as LockShape, End as EndShape, Unknown}

@@ -7,7 +7,7 @@ use Prim.Native.Nat.{ℕ, suc, _+_}
 use mathlib.Core.List.{List, [], _∷_, _++_}
 use lib.ListN.{length}
 use Rattle.text.specs.Bytes.{Line, linesOf}
-use Rattle.scan.specs.declared.Span.{Span}
+use Rattle.stretch.specs.declared.Span.{Span}
 use Rattle.records.specs.Records.{Record, recordIn}
 use Rattle.records.specs.Records.Record.{part, task, lock, end, noRecord}
 use Rattle.records.specs.Cursor.{nameSpan}

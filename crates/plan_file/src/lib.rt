@@ -1,10 +1,10 @@
 // What the reader keeps of the lines above, and what a record enters.
 use refusal::Refusal;
-use scan::Span;
+use stretch::Span;
 use task_set::Task;
 ghost use mathlib.Core.Path.{_≡_};
 ghost use Prim.Native.Nat.{_<_};
-ghost use Rattle.scan.specs.Scan.{bytesOf};
+ghost use Rattle.stretch.specs.Stretch.{bytesOf};
 ghost use Rattle.plan_file.specs.Entries.{FineNames, noNames, noTaskRead, noneSeen, withName, withLockName, placeAmong, namesOf, seenPart, seenTask, seenLock, seenEnd};
 
 // Names in the order of their lines, as stretches of the file.
@@ -49,11 +49,11 @@ pub fn place_in(s: &[u8], names: Names, p: Span) -> usize
 {
     let n = names.count;
     let span = names.span;
-    let name = scan::bytes(s, p);
+    let name = stretch::bytes(s, p);
     let mut i = 0;
     while i < n {
         let q = span[i];
-        if fields::same_bytes(name, scan::bytes(s, q)) {
+        if fields::same_bytes(name, stretch::bytes(s, q)) {
             return i;
         }
         i += 1;

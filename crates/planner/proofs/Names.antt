@@ -14,7 +14,7 @@ use Rattle.text.specs.Bytes.{bytes, same, Line, linesOf, fieldsOf, lineOf}
 use Rattle.text.proofs.Bytes.{lineBytes, lines-join, fields-join, same-true}
 use Rattle.refusal.specs.FirstNo.{allYes}
 use Rattle.scan.specs.Line.{lineIsGood}
-use Rattle.scan.specs.Scan.{bytesOf}
+use Rattle.stretch.specs.Stretch.{bytesOf}
 use Rattle.records.specs.Records.{Record, recordOf, recordIn}
 use Rattle.records.specs.Records.Record.{part, task, lock, end, noRecord}
 use Rattle.records.specs.Cursor.{nameSpan}

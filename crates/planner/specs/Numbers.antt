@@ -17,7 +17,7 @@ use Rattle.refusal.specs.declared.Outcome.the-variants.{Done, Refused}
 use Rattle.refusal.specs.Limits.{rowLimit}
 use Rattle.refusal.specs.Questions.Answer.{answered, refused}
 use Rattle.supply.specs.Signed.{signedSupply}
-use Rattle.scan.specs.Scan.{bytesOf}
+use Rattle.stretch.specs.Stretch.{bytesOf}
 use Rattle.task_set.specs.Blocking.{Setting}
 use Rattle.candidates.specs.declared.Pair.{Pair}
 use Rattle.candidates.specs.declared.Kept.{Kept}

@@ -21,4 +21,4 @@ pub use refusal::Outcome;
 pub use refusal::Refusal;
 pub use refusal::number;
 pub use refusal::place;
-pub use scan::Span;
+pub use stretch::Span;

@@ -10,7 +10,7 @@ use Rattle.least.specs.declared.Frac.{Frac}
 use Rattle.task_set.specs.Tasks.{tasksOf}
 use Rattle.candidates.specs.Candidates.{shownCeiling}
 use Rattle.load.specs.declared.Row.{Row}
-use Rattle.scan.specs.Scan.{bytesOf}
+use Rattle.stretch.specs.Stretch.{bytesOf}
 use Rattle.plan_file.specs.Entries.{namesOf}
 use Rattle.plan_file.proofs.Places.{names-length}
 use Rattle.reader.specs.declared.PartRead.{PartRead}

@@ -15,7 +15,7 @@ use Rattle.load.specs.declared.Row.{Row}
 use Rattle.load.specs.declared.Rows.{Rows}
 use Rattle.load.specs.Weigh.{rowsOf}
 use Rattle.load.specs.Code.{noFrac, noRow}
-use Rattle.scan.specs.Scan.{bytesOf}
+use Rattle.stretch.specs.Stretch.{bytesOf}
 use Rattle.reader.specs.declared.PartRead.{PartRead}
 use Rattle.reader.specs.declared.PlanFile.{PlanFile}
 use Rattle.reader.specs.Reader.{blankPart}

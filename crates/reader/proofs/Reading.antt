@@ -15,7 +15,7 @@ use Rattle.refusal.specs.Limits.{fileLimit}
 use Rattle.refusal.specs.Questions.{ask, firstNo, Answer}
 use Rattle.refusal.specs.Questions.Answer.{answered, refused}
 use Rattle.refusal.proofs.Questions.{yes-next, no-answers}
-use Rattle.scan.specs.declared.Span.{Span}
+use Rattle.stretch.specs.declared.Span.{Span}
 use Rattle.scan.specs.Line.{lineIsGood}
 use Rattle.records.specs.declared.Cursor.{Cursor}
 use Rattle.records.specs.declared.Shape.{Shape}

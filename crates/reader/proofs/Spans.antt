@@ -11,7 +11,7 @@ use mathlib.Core.List.{List, [], _∷_, _++_, map, map-append, append-assoc, app
 use lib.ListN.{length, take, drop, set, drop-of-length-le}
 use lib.Seq.{take-suc-set, take-set-le}
 use Rattle.text.specs.Bytes.{linesOf}
-use Rattle.scan.specs.declared.Span.{Span}
+use Rattle.stretch.specs.declared.Span.{Span}
 use Rattle.records.specs.declared.Shape.{Shape}
 use Rattle.records.specs.declared.Shape.the-variants.{Part}
 use Rattle.records.specs.declared.Cursor.{Cursor}

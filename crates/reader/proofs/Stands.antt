@@ -13,8 +13,8 @@ use Rattle.least.proofs.Pad.{length-pad, getD-pad-fits}
 use Rattle.least.proofs.Last.{last-split, drop-last-snoc, drop-last-on-last, length-on-last}
 use Rattle.text.specs.Bytes.{among, mention}
 use Rattle.text.specs.Decimal.{valueOf}
-use Rattle.scan.specs.declared.Span.{Span}
-use Rattle.scan.specs.Scan.{bytesOf}
+use Rattle.stretch.specs.declared.Span.{Span}
+use Rattle.stretch.specs.Stretch.{bytesOf}
 use Rattle.records.specs.Records.Record.{part, task, lock, end}
 use Rattle.task_set.specs.declared.Task.{Task}
 use Rattle.task_set.specs.Tasks.{tasksOf}

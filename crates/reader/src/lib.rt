@@ -5,7 +5,7 @@ use records::Cursor;
 use records::Next;
 use refusal::Outcome;
 use refusal::Refusal;
-use scan::Span;
+use stretch::Span;
 use task_set::Part;
 use task_set::Task;
 ghost use mathlib.Core.Path.{_≡_};

@@ -9,10 +9,14 @@ use mathlib.Core.Path.{_≡_, refl, sym, ap, _∙_}
 use mathlib.Core.Bool.{Bool, true, false, cond}
 use mathlib.Core.List.{List, [], _∷_, _++_}
 use lib.Dec.{eqb}
-use lib.ListN.{length, drop}
+use lib.ListN.{length, drop, getD}
 use lib.Seq.{drop-drop}
+use Rattle.least.specs.Lists.{numbersFrom}
+use Rattle.least.proofs.Numbers.{numbers-pass, numbers-fail, numbers-each}
 use Rattle.text.specs.Bytes.{intoField, fieldsOf}
-use Rattle.scan.specs.Scan.{bytesOf, bodyOf, tabsFrom}
+use Rattle.stretch.specs.Stretch.{bytesOf}
+use Rattle.scan.specs.Scan.{isTab}
+use Rattle.scan.specs.Code.{bodyOf, tabsFrom}
 use Rattle.records.specs.Shapes.{upTo}
 
 unfoldable pub pieces : List ℕ → ℕ → List ℕ → ℕ → List (List ℕ)
@@ -21,13 +25,9 @@ pieces s from (t ∷ ts) end = bytesOf s (upTo from t) ∷ pieces s (t + 1) ts e
 
 -- no tab stands before the first byte
 first-tab : (bs : List ℕ) (at t : ℕ) (ts : List ℕ) → tabsFrom bs at ≡ t ∷ ts → at ≤ t
-unfolding tabsFrom
-first-tab [] at t ts e = absurd (let z : _≡_ {A = ℕ} 0 1 = cc in omega arith)
-first-tab (b ∷ bs) at t ts e = go (eqb b 9) refl (first-tab bs (suc at) t ts)
-  where
-    go : (u : Bool) → eqb b 9 ≡ u → (tabsFrom bs (suc at) ≡ t ∷ ts → suc at ≤ t) → at ≤ t
-    go true p ih = let f = simp p at e in let g : at ≡ t = cc in omega arith
-    go false p ih = let h = ih (simp p at e) in omega arith
+first-tab bs at t ts e =
+    let r = numbers-each isTab 0 at 0 bs (rw e (omega arith)) in
+    omega (arith, ap (λ (us : List ℕ). getD us 0 0) e, r .1)
 
 drop-next : (s : List ℕ) (at b : ℕ) (xs : List ℕ) → drop at s ≡ b ∷ xs → drop (suc at) s ≡ xs
 drop-next s at b xs h = rw (← add-one at, ← drop-drop 1 at s) (ap (drop 1) h)
@@ -60,19 +60,19 @@ unfolding pieces
 pieces-tab s at ts end = simp (stretch-empty s at, add-one at)
 
 fields-none : (s : List ℕ) (at : ℕ) → fieldsOf [] ≡ pieces s at (tabsFrom [] at) (at + 0)
-unfolding fieldsOf pieces tabsFrom
+unfolding fieldsOf pieces numbersFrom
 fields-none s at = rw add-zero (ap (λ (l : List ℕ). l ∷ []) (sym (stretch-empty s at)))
 
 fields-pieces : (s bs r : List ℕ) (at : ℕ) → drop at s ≡ bs ++ r → fieldsOf bs ≡ pieces s at (tabsFrom bs at) (at + length bs)
-unfolding tabsFrom
+unfolding isTab
 fields-pieces s [] r at h = fields-none s at
 fields-pieces s (b ∷ bs) r at h = go (eqb b 9) refl (fields-pieces s bs r (suc at) (drop-next s at b (bs ++ r) h))
   where
     go : (u : Bool) → eqb b 9 ≡ u → fieldsOf bs ≡ pieces s (suc at) (tabsFrom bs (suc at)) (suc at + length bs) → fieldsOf (b ∷ bs) ≡ pieces s at (tabsFrom (b ∷ bs) at) (at + suc (length bs))
-    go true p ih = fields-tab b bs p ∙ simp (p, add-suc, simp suc-add at ih, pieces-tab)
+    go true p ih = fields-tab b bs p ∙ simp (numbers-pass isTab at b bs p, add-suc, simp suc-add at ih, pieces-tab)
     go false p ih =
         fields-more b bs p
-        ∙ simp (p, add-suc, simp suc-add at ih) (pieces-into s at b (bs ++ r) (tabsFrom bs (suc at)) (suc (at + length bs)) h (omega arith) (λ t us e. first-tab bs (suc at) t us e))
+        ∙ simp (numbers-fail isTab at b bs p, add-suc, simp suc-add at ih) (pieces-into s at b (bs ++ r) (tabsFrom bs (suc at)) (suc (at + length bs)) h (omega arith) (λ t us e. first-tab bs (suc at) t us e))
 
 -- a line's bytes are what its file begins with
 body-begins : (xs : List ℕ) → xs ≡ bodyOf xs ++ drop (length (bodyOf xs)) xs

@@ -9,7 +9,8 @@ use mathlib.Core.List.{List}
 use lib.ListN.{length, getD}
 use Rattle.scan.specs.declared.Scanned.{Scanned}
 use Rattle.scan.specs.Line.{lineIsGood}
-use Rattle.scan.specs.Scan.{bytesOf, firstFive, lineAt}
+use Rattle.stretch.specs.Stretch.{bytesOf}
+use Rattle.scan.specs.Code.{firstFive, lineAt}
 use Rattle.scan.proofs.Scan.{goodAt}
 use Rattle.scan.proofs.Lines.{theLine, theEnd, theTabs, scanned-good, lines-at, GoodLine, good-line}
 use Rattle.records.specs.declared.Shape.{Shape}

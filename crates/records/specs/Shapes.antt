@@ -12,7 +12,7 @@ use mathlib.Core.List.{List}
 use lib.Dec.{eqb, ltb}
 use lib.ListN.{getD}
 use Rattle.text.specs.Bytes.{bytes, same}
-use Rattle.scan.specs.declared.Span.{Span}
+use Rattle.stretch.specs.declared.Span.{Span}
 use Rattle.scan.specs.declared.Scanned.{Scanned}
 use Rattle.records.specs.declared.Shape.{Shape}
 use Rattle.records.specs.declared.Shape.the-variants.{Part, Task, Lock, End, Unknown}

@@ -1,6 +1,6 @@
 // Records: a cursor that goes on line by line and hands back the next cursor and the record.
 use scan::Scanned;
-use scan::Span;
+use stretch::Span;
 ghost use mathlib.Core.Path.{_≡_};
 ghost use Prim.Native.Nat.{_<_, _≤_, _^_};
 ghost use Rattle.records.specs.Shapes.{upTo, endOf, firstField, field, wordOf, partShape, taskShape, lockShape, endShape, shapeOf, TabsSmall};
@@ -198,7 +198,7 @@ impl Cursor {
         }
         let l = scan::line_at(s, at);
         if l.good {
-            let w = word_of(scan::bytes(s, first_field(at, l)));
+            let w = word_of(stretch::bytes(s, first_field(at, l)));
             let shape = shape_of(w, l);
             return Next::Record(
                 shape,

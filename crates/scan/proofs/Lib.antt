@@ -1,3 +1,4 @@
-pub mod Stretch
 pub mod Scan
+pub mod FirstLine
 pub mod Lines
+pub mod EveryLine

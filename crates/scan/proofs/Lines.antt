@@ -1,22 +1,23 @@
 -- A scanned line is the first of the lines that the file has from there on. Where it is good, its byte 10 and its tabs stand within the file.
 -- Assumes nothing.
-use Prim.Native.Nat.{ℕ, zero, suc, _+_, _≤_, _<_, zero-le}
+use Prim.Native.Nat.{ℕ, suc, _+_, _≤_, _<_, zero-le}
 use native.Mathlib.Decide.{decLt}
 use native.Mathlib.Omega.{arith}
 use mathlib.Core.Path.{_≡_, refl, ap, _∙_}
 use mathlib.Core.Bool.{Bool, true, false, cond, false≢true}
-use mathlib.Core.List.{List, [], _∷_, _++_}
+use mathlib.Core.List.{List, [], _∷_}
 use lib.Dec.{eqb}
-use lib.ListN.{length, drop, length-drop, getD, List·getD-eq-default}
+use lib.ListN.{length, drop, length-drop, getD}
 use lib.Seq.{drop-drop}
-use Rattle.least.specs.Lists.{every, pad}
+use Rattle.least.specs.Lists.{every}
 use Rattle.least.proofs.Lists.{and-iff}
-use Rattle.least.proofs.Pad.{getD-pad, length-pad}
 use Rattle.text.specs.Bytes.{Line, intoLine, linesOf}
-use Rattle.scan.specs.declared.Tabs.{Tabs}
+use Rattle.scan.specs.declared.Scanned.{Scanned}
 use Rattle.scan.specs.Line.{isAllowed, lineIsGood}
-use Rattle.scan.specs.Scan.{bodyOf, isEnded, firstLine, tabsFrom, firstFive, lineAt}
-use Rattle.scan.proofs.Scan.{goodAt, notGood}
+use Rattle.scan.specs.Scan.{Found}
+use Rattle.scan.specs.Code.{bodyOf, isEnded, firstLine, tabsFrom, firstFive, lineAt}
+use Rattle.scan.proofs.Scan.{goodAt}
+use Rattle.scan.proofs.FirstLine.{first-scanned}
 
 -- the first line, and the lines behind its byte 10
 lines-newline : (b : ℕ) (bs : List ℕ) → eqb b 10 ≡ true → linesOf (b ∷ bs) ≡ record { body = []; ended = true } ∷ linesOf bs
@@ -35,7 +36,7 @@ unfolding linesOf intoLine bodyOf isEnded
 into-first b [] ih = refl
 into-first b (c ∷ cs) ih = ap (intoLine b) (ih (omega arith))
 
-lines-first : (xs : List ℕ) → 1 ≤ length xs → linesOf xs ≡ firstLine xs ∷ linesOf (drop (suc (length (bodyOf xs))) xs)
+pub lines-first : (xs : List ℕ) → 1 ≤ length xs → linesOf xs ≡ firstLine xs ∷ linesOf (drop (suc (length (bodyOf xs))) xs)
 unfolding bodyOf isEnded
 lines-first [] h = absurd (omega arith)
 lines-first (b ∷ bs) h = go (eqb b 10) refl (into-first b bs (lines-first bs))
@@ -55,27 +56,12 @@ body-ended (b ∷ bs) e = go (eqb b 10) refl (body-ended bs)
     go false p ih = simp p (omega (arith, ih (simp p at e)))
 
 -- the tabs of a line stand on it
-tabs-below : (bs : List ℕ) (at k : ℕ) → getD (tabsFrom bs at) k 0 ≤ at + length bs
-unfolding tabsFrom
-tabs-below [] at k = omega arith
-tabs-below (b ∷ bs) at k = go (eqb b 9) k (tabs-below bs (suc at))
+tabs-below : (l : Line) (at : ℕ) (r : Scanned) → Found l at r → (k : ℕ) → getD (r .tabs .place) k 0 ≤ at + length (l .body)
+tabs-below l at r f k = go (decLt k (r .tabs .count))
   where
-    go : (t : Bool) (k : ℕ) → ((k : ℕ) → getD (tabsFrom bs (suc at)) k 0 ≤ suc at + length bs) → getD (cond t (at ∷ []) [] ++ tabsFrom bs (suc at)) k 0 ≤ at + suc (length bs)
-    go true zero h = omega arith
-    go true (suc k) h = omega (arith, h k)
-    go false k h = omega (arith, h k)
-
-five-below : (ts : List ℕ) (n k : ℕ) → getD ts k 0 ≤ n → getD (firstFive ts .place) k 0 ≤ n
-unfolding firstFive
-five-below ts n k h = go (decLt k 5)
-  where
-    go : Dec (k < 5) → getD (pad 5 0 ts) k 0 ≤ n
-    go (yes l) = rw (getD-pad 5 0 ts k l) h
-    go (no l) = rw (List·getD-eq-default (pad 5 0 ts) 0 {n = k} (rw length-pad (omega arith))) zero-le
-
-good-flag : (t : Bool) (i : ℕ) (ts : Tabs) → (cond t (goodAt i ts) notGood) .good ≡ t
-good-flag true i ts = refl
-good-flag false i ts = refl
+    go : Dec (k < r .tabs .count) → getD (r .tabs .place) k 0 ≤ at + length (l .body)
+    go (yes h) = let (i, e, t) = f .place k h in omega (arith, e, t .within)
+    go (no h) = rw (f .unused k (omega arith)) zero-le
 
 module _ (s : List ℕ) (at : ℕ) where
   -- the line that begins at `at`, where its byte 10 stands, and its tabs
@@ -89,8 +75,7 @@ module _ (s : List ℕ) (at : ℕ) where
   theTabs = tabsFrom (theLine .body) at
 
   pub scanned-good : lineAt s at .good ≡ lineIsGood theLine
-  unfolding lineAt
-  scanned-good = good-flag (lineIsGood theLine) theEnd (firstFive theTabs)
+  scanned-good = first-scanned s at .question2
 
   pub lines-at : at < length s → linesOf (drop at s) ≡ theLine ∷ linesOf (drop (theEnd + 1) s)
   lines-at h =
@@ -108,4 +93,4 @@ module _ (s : List ℕ) (at : ℕ) where
   good-line g =
       let e : theEnd < length s = omega (arith, simp length-drop at (body-ended (drop at s) (and-iff (isEnded (drop at s)) (every isAllowed (bodyOf (drop at s))) .0 g .0))) in
       let l : lineAt s at ≡ goodAt theEnd (firstFive theTabs) = simp g in
-      record { scanned = l; within = e; places = λ j. rw l (five-below theTabs (length s) j (omega (arith, tabs-below (theLine .body) at j))) }
+      record { scanned = l; within = e; places = λ j. omega (arith, tabs-below theLine at (lineAt s at) (first-scanned s at .good (scanned-good ∙ g)) j) }

@@ -1,53 +1,58 @@
--- What one pass over a line finds, by positions in the file.
---   bytesOf s p    == the bytes of a stretch of the file s
---   firstLine bs   == the line that bs begins with: the bytes before the first byte 10, and whether there is one
---   tabsFrom bs at == where the tabs stand among bytes of which the first stands at `at`
---   firstFive ts   == the first five of some places, and how many there are of them
---   lineAt s at    == the line that begins at `at`: whether question 2 holds and, if so, where its byte 10 and its first five tabs stand; else zeros
---   markOf t b i   == the tabs t with one more at i, where b is a tab and there is room for it
+-- What the scan of a line says (request M-102): whether question 2 holds and, if so, where the line's first five tabs stand.
+--   startBehind ls  == where the line behind these lines begins: each has its bytes, and byte 10
+--   isTab b         == byte 9
+--   tabsIn bs       == how many tabs there are
+--   TabAt bs k i    == byte i of bs, from 0, is the tab with k tabs before it
+--   Found l at r    == r says of the line l, which begins at `at`, where its byte 10 stands, how many there are of its first five tabs, and where each of them stands
+--   OnlyZeros r     == r says nothing
+--   ScanIs l at r   == r is what the scan says of the line l, which begins at `at`
+--   EveryLineScanned scan == this is what a scan says of every line of every file
 -- Assumes nothing.
-use Prim.Native.Nat.{ℕ, suc, _+_, min}
-use mathlib.Core.Bool.{Bool, true, false, cond, _&&_, _||_}
-use mathlib.Core.List.{List, [], _∷_, _++_}
-use lib.Dec.{eqb, ltb}
-use lib.ListN.{length, take, drop, set}
-use Rattle.least.specs.Lists.{pad}
-use Rattle.text.specs.Bytes.{Line}
-use Rattle.scan.specs.declared.Span.{Span}
-use Rattle.scan.specs.declared.Tabs.{Tabs}
+use Prim.Native.Nat.{ℕ, suc, _+_, _<_, _≤_, min}
+use mathlib.Core.Path.{_≡_}
+use mathlib.Core.Bool.{Bool, true, false}
+use mathlib.Core.List.{List, _∷_, _++_, map}
+use lib.Dec.{eqb}
+use lib.ListN.{length, take, getD}
+use Rattle.least.specs.Lists.{sum, those}
+use Rattle.text.specs.Bytes.{Line, linesOf}
 use Rattle.scan.specs.declared.Scanned.{Scanned}
 use Rattle.scan.specs.Line.{lineIsGood}
 
-unfoldable pub bytesOf : List ℕ → Span → List ℕ
-bytesOf s p = take (p .len) (drop (p .start) s)
+unfoldable pub startBehind : List Line → ℕ
+startBehind ls = sum (map (λ l. suc (length (l .body))) ls)
 
-unfoldable pub bodyOf : List ℕ → List ℕ
-bodyOf [] = []
-bodyOf (b ∷ bs) = cond (eqb b 10) [] (b ∷ bodyOf bs)
+unfoldable pub isTab : ℕ → Bool
+isTab b = eqb b 9
 
-unfoldable pub isEnded : List ℕ → Bool
-isEnded [] = false
-isEnded (b ∷ bs) = eqb b 10 || isEnded bs
+abbrev pub tabsIn : List ℕ → ℕ
+tabsIn bs = length (those isTab bs)
 
-abbrev pub firstLine : List ℕ → Line
-firstLine bs = record { body = bodyOf bs; ended = isEnded bs }
+pub record TabAt (bs : List ℕ) (k i : ℕ) : Type 0 where
+  pub within : i < length bs
+  pub tab : getD bs i 0 ≡ 9
+  pub before : tabsIn (take i bs) ≡ k
 
-unfoldable pub tabsFrom : List ℕ → ℕ → List ℕ
-tabsFrom [] at = []
-tabsFrom (b ∷ bs) at = cond (eqb b 9) (at ∷ []) [] ++ tabsFrom bs (suc at)
+pub record Found (l : Line) (at : ℕ) (r : Scanned) : Type 0 where
+  pub end : r .end ≡ at + length (l .body)
+  pub count : r .tabs .count ≡ min 5 (tabsIn (l .body))
+  -- positions in the file
+  pub place : (k : ℕ) → k < r .tabs .count → (i : ℕ) × (getD (r .tabs .place) k 0 ≡ at + i) × TabAt (l .body) k i
+  pub unused : (k : ℕ) → r .tabs .count ≤ k → getD (r .tabs .place) k 0 ≡ 0
 
-unfoldable pub firstFive : List ℕ → Tabs
-firstFive ts = record { count = min 5 (length ts); place = pad 5 0 ts }
+pub record OnlyZeros (r : Scanned) : Type 0 where
+  pub end : r .end ≡ 0
+  pub count : r .tabs .count ≡ 0
+  pub unused : (k : ℕ) → getD (r .tabs .place) k 0 ≡ 0
 
-unfoldable pub lineAt : List ℕ → ℕ → Scanned
-lineAt s at =
-    let rest = drop at s in
-    cond (lineIsGood (firstLine rest))
-    (record { good = true; end = at + length (bodyOf rest); tabs = firstFive (tabsFrom (bodyOf rest) at) })
-    (record { good = false; end = 0; tabs = firstFive [] })
+pub record ScanIs (l : Line) (at : ℕ) (r : Scanned) : Type 0 where
+  -- whether question 2 holds
+  pub question2 : r .good ≡ lineIsGood l
+  -- if so, where its first five tabs stand
+  pub good : r .good ≡ true → Found l at r
+  pub bad : r .good ≡ false → OnlyZeros r
+  pub places : length (r .tabs .place) ≡ 5
 
-unfoldable pub markOf : Tabs → ℕ → ℕ → Tabs
-markOf t b i =
-    cond (eqb b 9 && ltb (t .count) 5)
-    (record { count = t .count + 1; place = set (t .place) (t .count) i })
-    t
+abbrev pub EveryLineScanned : (List ℕ → ℕ → Scanned) → Type 0
+EveryLineScanned scan =
+    (s : List ℕ) (above : List Line) (l : Line) (behind : List Line) → linesOf s ≡ above ++ (l ∷ behind) → ScanIs l (startBehind above) (scan s (startBehind above))

@@ -4,9 +4,9 @@ use plan_file::Entry;
 use plan_file::Names;
 use plan_file::Times;
 use refusal::Refusal;
-use scan::Span;
+use stretch::Span;
 ghost use mathlib.Core.Path.{_≡_};
-ghost use Rattle.scan.specs.Scan.{bytesOf};
+ghost use Rattle.stretch.specs.Stretch.{bytesOf};
 ghost use Rattle.plan_file.specs.Entries.{FineNames, timesIn, taskEntry};
 
 // The greatest number of tasks in a part.
@@ -15,13 +15,13 @@ const TASK_LIMIT: usize = 16;
 fn read_times(s: &[u8], separation: Span, cost: Span, deadline: Span) -> Times
     ensures { λ r. ⌜ r ≡ timesIn (bytesOf (now (s .entry)) separation) (bytesOf (now (s .entry)) cost) (bytesOf (now (s .entry)) deadline) ⌝ }
 {
-    let Number::Is(t) = fields::read_number(scan::bytes(s, separation)) else {
+    let Number::Is(t) = fields::read_number(stretch::bytes(s, separation)) else {
         return Times::Malformed;
     };
-    let Number::Is(c) = fields::read_number(scan::bytes(s, cost)) else {
+    let Number::Is(c) = fields::read_number(stretch::bytes(s, cost)) else {
         return Times::Malformed;
     };
-    let Number::Is(d) = fields::read_number(scan::bytes(s, deadline)) else {
+    let Number::Is(d) = fields::read_number(stretch::bytes(s, deadline)) else {
         return Times::Malformed;
     };
     Times::Are(t, c, d)
@@ -43,7 +43,7 @@ pub fn ask_task(
     if !allowed {
         return Entry::Refused(Refusal::Misplaced(line));
     }
-    if !fields::is_name(scan::bytes(s, name)) {
+    if !fields::is_name(stretch::bytes(s, name)) {
         return Entry::Refused(Refusal::BadName(line));
     }
     let n = tasks.count;

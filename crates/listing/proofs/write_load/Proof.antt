@@ -4,7 +4,7 @@ use Prim.Native.Nat.{ℕ}
 use mathlib.Core.Path.{sym, ap, _∙_}
 use mathlib.Core.List.{List, _++_}
 use Rattle.text.specs.Bytes.{bytes}
-use Rattle.scan.specs.Scan.{bytesOf}
+use Rattle.stretch.specs.Stretch.{bytesOf}
 use Rattle.writer.proofs.Written.{Left, left-start, left-as, left-room, left-more, left-last}
 use Rattle.listing.specs.Listing.{loadLine}
 use Rattle.listing.specs.Shares.{headOf, named}

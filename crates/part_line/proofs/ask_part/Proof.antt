@@ -4,7 +4,7 @@ use Prim.Native.Nat.{_≤_}
 use mathlib.Core.Path.{_≡_}
 use mathlib.Core.Bool.{false}
 use borrow.Author.Tests.{not-true, not-false}
-use Rattle.scan.specs.Scan.{bytesOf}
+use Rattle.stretch.specs.Stretch.{bytesOf}
 use Rattle.plan_file.specs.Entries.{namesOf, placeAmong}
 use Rattle.plan_file.proofs.Asking.{NumberIs, number-is, number-malformed, Named, named-by-tests, part-misplaced, part-misnamed, part-known, part-misnumbered, part-too-many, part-enters}
 use borrow.Author.Needs.{needs}

@@ -6,7 +6,7 @@ use native.Mathlib.Omega.{arith}
 use mathlib.Core.Path.{_≡_, sym, ap, _∙_}
 use mathlib.Core.List.{List, map}
 use lib.ListN.{length, take, drop}
-use Rattle.scan.specs.Scan.{bytesOf}
+use Rattle.stretch.specs.Stretch.{bytesOf}
 use Rattle.plan_file.specs.Entries.{namesOf, placeAmong}
 use Rattle.plan_file.proofs.Places.{place-here, place-more, place-end}
 use borrow.Author.Needs.{needs}

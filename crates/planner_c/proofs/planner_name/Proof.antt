@@ -2,7 +2,7 @@
 -- Assumes nothing.
 use mathlib.Core.Path.{_≡_, ap, _∙_}
 use borrow.Author.Needs.{needs}
-use Rattle.scan.specs.Scan.{bytesOf}
+use Rattle.stretch.specs.Stretch.{bytesOf}
 use Rattle.planner_c.specs.Exported.{nameExported}
 use Rattle.planner_c.proofs.planner_name.Statement.{statement}
 use Rattle.planner_c.proofs.planner_name.Tie as tie

@@ -2,25 +2,24 @@
 -- Assumes nothing.
 use borrow.Author.Needs.{needs}
 use Prim.Native.Nat.{ℕ, _-_}
-use mathlib.Core.Path.{_≡_, sym, _∙_}
-use mathlib.Core.List.{List, []}
-use lib.ListN.{length, drop, getD}
-use Rattle.scan.specs.Scan.{lineAt, firstFive}
-use Rattle.scan.proofs.Scan.{lineFrom, from-start, at-newline, at-forbidden, at-plain, at-tab, at-end, mark-firstFive, withTab}
+use mathlib.Core.Path.{_≡_, refl, sym, _∙_}
+use mathlib.Core.List.{List, [], _∷_, _++_}
+use lib.ListN.{length, drop}
+use Rattle.least.specs.Lists.{pad}
+use Rattle.scan.specs.Code.{lineAt, firstFive}
+use Rattle.scan.proofs.Scan.{lineFrom, from-start, at-newline, at-forbidden, at-plain, at-tab, at-end, five-stored, five-full}
 use Rattle.scan.proofs.line_at.Statement.{statement}
 use Rattle.scan.proofs.line_at.Tie as tie
 
 abbrev Inv-loop : tie.InvT-loop
-Inv-loop s at t₀ i₀ t i = (ts : List ℕ) × (t ≡ firstFive ts) × (lineAt s at ≡ lineFrom (drop i s) i ts)
+Inv-loop s at count₀ place₀ i₀ count place i = (ts : List ℕ) × (record { count = count; place = place } ≡ firstFive ts) × (lineAt s at ≡ lineFrom (drop i s) i ts)
 
 abbrev μ-loop : tie.MeasureT-loop
-μ-loop s at t₀ i₀ t i = length s - i
-
-no-tabs-requires : tie.Need-no-tabs-requires Inv-loop μ-loop
-no-tabs-requires c κs = search needs
+μ-loop s at count₀ place₀ i₀ count place i = length s - i
 
 loop-holds : tie.Need-loop-holds Inv-loop μ-loop
-loop-holds c = ([], c .no-tabs .ensures, from-start _ _)
+unfolding firstFive pad
+loop-holds c = ([], refl, from-start _ _)
 
 shared-slice-read-b : tie.Need-shared-slice-read-b Inv-loop μ-loop
 shared-slice-read-b c = search needs
@@ -37,47 +36,61 @@ loop-less c = search needs
 loop-again : tie.Need-loop-again Inv-loop μ-loop
 loop-again c =
     let l = c .before .before .before .before in
-    let s = l .before .before .before .args .s .now in
+    let s = l .before .before .args .s .now in
     (l .loop .inv .0, l .loop .inv .1, l .loop .inv .2 ∙ at-plain s (l .loop .i) (l .loop .inv .0) (c .before .before .before .loop-test .taken) (sym (c .before .is-plain .ensures) ∙ c .if1 .taken))
 
-mark-requires : tie.Need-mark-requires Inv-loop μ-loop
-mark-requires c κs = search needs
+returns : tie.Need-returns Inv-loop μ-loop
+returns c =
+    let l = c .before .before .before .before .before in
+    cc (at-newline (l .before .before .args .s .now) (l .loop .i) (l .loop .inv .0) (c .before .before .before .before .loop-test .taken) (c .if2 .taken))
 
 add-i-2 : tie.Need-add-i-2 Inv-loop μ-loop
 add-i-2 c = search needs
+
+mul-place : tie.Need-mul-place Inv-loop μ-loop
+mul-place c = search needs
+
+array-write-place : tie.Need-array-write-place Inv-loop μ-loop
+array-write-place c = search needs
+
+add-count : tie.Need-add-count Inv-loop μ-loop
+add-count c = search needs
 
 loop-less-2 : tie.Need-loop-less-2 Inv-loop μ-loop
 loop-less-2 c = search needs
 
 loop-again-2 : tie.Need-loop-again-2 Inv-loop μ-loop
 loop-again-2 c =
-    let l = c .before .before .before .before .before .before in
-    let s = l .before .before .before .args .s .now in (
-      withTab (l .loop .inv .0) (getD s (l .loop .i) 0) (l .loop .i),
-      c .mark .ensures ∙ rw (l .loop .inv .1) (mark-firstFive _ _ _),
-      l .loop .inv .2 ∙ at-tab s (l .loop .i) (l .loop .inv .0) (c .before .before .before .before .before .loop-test .taken) (c .before .if2 .taken),
+    let l = c .before .before .before .before .before .before .before in
+    let s = l .before .before .args .s .now in (
+      l .loop .inv .0 ++ l .loop .i ∷ [],
+      five-stored _ _ (l .loop .inv .0) (l .loop .i) (l .loop .inv .1) (c .if4 .taken),
+      l .loop .inv .2 ∙ at-tab s (l .loop .i) (l .loop .inv .0) (c .before .before .before .before .before .before .loop-test .taken) (c .before .if3 .left),
     )
 
-returns : tie.Need-returns Inv-loop μ-loop
-returns c =
-    let l = c .before .before .before .before .before .before in
-    cc (at-newline (l .before .before .before .args .s .now) (l .loop .i) (l .loop .inv .0) (c .before .before .before .before .before .loop-test .taken) (c .if3 .taken))
+loop-less-3 : tie.Need-loop-less-3 Inv-loop μ-loop
+loop-less-3 c = search needs
 
-no-tabs-requires-2 : tie.Need-no-tabs-requires-2 Inv-loop μ-loop
-no-tabs-requires-2 c κs = search needs
+loop-again-3 : tie.Need-loop-again-3 Inv-loop μ-loop
+loop-again-3 c =
+    let l = c .before .before .before .before .before .before .before in
+    let s = l .before .before .args .s .now in (
+      l .loop .inv .0 ++ l .loop .i ∷ [],
+      five-full _ _ (l .loop .inv .0) (l .loop .i) (l .loop .inv .1) (c .if4 .left),
+      l .loop .inv .2 ∙ at-tab s (l .loop .i) (l .loop .inv .0) (c .before .before .before .before .before .before .loop-test .taken) (c .before .if3 .left),
+    )
 
 returns-2 : tie.Need-returns-2 Inv-loop μ-loop
+unfolding firstFive pad
 returns-2 c =
-    let l = c .before .before .before .before .before .before .before in
-    cc (at-forbidden (l .before .before .before .args .s .now) (l .loop .i) (l .loop .inv .0) (c .before .before .before .before .before .before .loop-test .taken) (sym (c .before .before .before .before .is-plain .ensures) ∙ c .before .before .before .if1 .left) (c .before .before .if2 .left) (c .before .if3 .left))
-
-no-tabs-requires-3 : tie.Need-no-tabs-requires-3 Inv-loop μ-loop
-no-tabs-requires-3 c κs = search needs
+    let l = c .before in
+    sym (l .loop .inv .2 ∙ at-end (l .before .before .args .s .now) (l .loop .i) (l .loop .inv .0) (c .loop-test .left))
 
 returns-3 : tie.Need-returns-3 Inv-loop μ-loop
+unfolding firstFive pad
 returns-3 c =
-    let l = c .before .before in
-    cc (at-end (l .before .before .before .args .s .now) (l .loop .i) (l .loop .inv .0) (c .before .loop-test .left))
+    let l = c .before .before .before .before .before .before in
+    sym (l .loop .inv .2 ∙ at-forbidden (l .before .before .args .s .now) (l .loop .i) (l .loop .inv .0) (c .before .before .before .before .before .loop-test .taken) (sym (c .before .before .before .is-plain .ensures) ∙ c .before .before .if1 .left) (c .if3 .taken) (c .before .if2 .left))
 
 pub line-at-spec : {M : Type 1} → statement M
 line-at-spec =
@@ -85,19 +98,20 @@ line-at-spec =
     (tie.spec
     Inv-loop
     μ-loop
-    no-tabs-requires
     loop-holds
     shared-slice-read-b
     is-plain-requires
     add-i
     loop-less
     loop-again
-    mark-requires
+    returns
     add-i-2
+    mul-place
+    array-write-place
+    add-count
     loop-less-2
     loop-again-2
-    returns
-    no-tabs-requires-2
+    loop-less-3
+    loop-again-3
     returns-2
-    no-tabs-requires-3
     returns-3)

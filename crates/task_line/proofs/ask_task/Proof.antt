@@ -4,7 +4,7 @@ use Prim.Native.Nat.{_≤_}
 use mathlib.Core.Path.{_≡_}
 use mathlib.Core.Bool.{false}
 use borrow.Author.Tests.{not-true, not-false}
-use Rattle.scan.specs.Scan.{bytesOf}
+use Rattle.stretch.specs.Stretch.{bytesOf}
 use Rattle.plan_file.specs.Entries.{namesOf, placeAmong}
 use Rattle.plan_file.proofs.Asking.{TimesAre, times-are, times-malformed, Named, named-by-tests, task-misplaced, task-misnamed, task-known, task-misnumbered, task-cost-over-deadline, task-deadline-over-separation, task-too-many, task-enters}
 use borrow.Author.Needs.{needs}

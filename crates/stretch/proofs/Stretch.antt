@@ -9,9 +9,8 @@ use mathlib.Core.List.{List, []}
 use lib.ListN.{length, take, drop, length-drop, drop-of-length-le}
 use lib.Seq.{take-nil, take-all}
 use denote.Ref.{RefT}
-use Rattle.scan.specs.declared.Span.{Span}
-use Rattle.scan.specs.Scan.{bytesOf}
-use Rattle.scan.specs.Stretch.{StretchOf}
+use Rattle.stretch.specs.declared.Span.{Span}
+use Rattle.stretch.specs.Stretch.{bytesOf, StretchOf}
 
 pub bytes-past : (s : List ℕ) (p : Span) → length s ≤ p .start → [] ≡ bytesOf s p
 unfolding bytesOf

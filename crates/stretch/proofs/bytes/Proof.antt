@@ -1,8 +1,8 @@
--- `scan::bytes` meets its contract: those of the stretch.
+-- `stretch::bytes` meets its contract: those of the stretch.
 -- Assumes nothing.
 use borrow.Author.Needs.{needs}
-use Rattle.scan.proofs.bytes.Statement.{statement}
-use Rattle.scan.proofs.bytes.Tie as tie
+use Rattle.stretch.proofs.bytes.Statement.{statement}
+use Rattle.stretch.proofs.bytes.Tie as tie
 
 stretch-of-requires : tie.Need-stretch-of-requires
 stretch-of-requires c κs = search needs

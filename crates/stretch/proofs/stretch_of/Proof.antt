@@ -1,13 +1,13 @@
--- `scan::stretch_of` meets its contract: each of its three answers is a part of the slice, from the start of the stretch or from the end of the slice on.
+-- `stretch::stretch_of` meets its contract: each of its three answers is a part of the slice, from the start of the stretch or from the end of the slice on.
 -- Assumes nothing.
 use native.Mathlib.Nat.{add-sub-cancel-left, sub-self}
 use native.Mathlib.Omega.{arith}
 use mathlib.Core.Path.{refl}
-use Rattle.scan.specs.Scan.{bytesOf}
-use Rattle.scan.proofs.Stretch.{bytes-past, bytes-over}
+use Rattle.stretch.specs.Stretch.{bytesOf}
+use Rattle.stretch.proofs.Stretch.{bytes-past, bytes-over}
 use borrow.Author.Needs.{needs}
-use Rattle.scan.proofs.stretch_of.Statement.{statement}
-use Rattle.scan.proofs.stretch_of.Tie as tie
+use Rattle.stretch.proofs.stretch_of.Statement.{statement}
+use Rattle.stretch.proofs.stretch_of.Tie as tie
 
 sub-result : tie.Need-sub-result
 sub-result c = search needs
