@@ -1,7 +1,38 @@
-//! Timing: nanoseconds a run, best of several rounds.
+//! Timing: the files that are timed, and nanoseconds a run, best of several rounds.
 
 use std::hint::black_box;
+use std::path::{Path, PathBuf};
 use std::time::{Duration, Instant};
+use std::{fs, io};
+
+/// A plan file of bench/, by its name without `.plan`.
+pub struct BenchFile {
+    pub name: String,
+    pub path: PathBuf,
+    pub bytes: Vec<u8>,
+}
+
+/// The plan files of bench/, in the order of their names.
+pub fn files() -> io::Result<Vec<BenchFile>> {
+    let folder = Path::new(env!("CARGO_MANIFEST_DIR")).join("bench");
+    let mut files = Vec::new();
+    for entry in fs::read_dir(folder)? {
+        let path = entry?.path();
+        if path
+            .extension()
+            .is_some_and(|extension| extension == "plan")
+        {
+            let name = path.file_stem().unwrap_or_default();
+            files.push(BenchFile {
+                name: name.to_string_lossy().into_owned(),
+                bytes: fs::read(&path)?,
+                path,
+            });
+        }
+    }
+    files.sort_by(|a, b| a.name.cmp(&b.name));
+    Ok(files)
+}
 
 const ROUNDS: u32 = 30;
 const ROUND: Duration = Duration::from_millis(5);

@@ -2,13 +2,12 @@
 //! Seeds are fixed. `ROUNDS=20 cargo test --release --features library --test library` makes up
 //! twenty times as many inputs.
 
-use std::path::Path;
-use std::{env, fs};
+use std::env;
 
 use reference::random::{self, Random, Sizes};
 use reference::system::Row;
 use reference::{
-    candidates, library, name, plan, programs, supply_answer, weigh, Refusal, PROGRAM_ROOM,
+    candidates, library, name, plan, programs, supply_answer, timing, weigh, Refusal, PROGRAM_ROOM,
 };
 
 /// Every part number of a file of up to 16 parts, and some that no part has.
@@ -73,11 +72,8 @@ fn same_in_every_room(file: &[u8]) {
 fn files() -> Vec<Vec<u8>> {
     let cases = programs::CASES.files().expect("the cases").into_iter();
     let mut files: Vec<Vec<u8>> = cases.map(|case| case.bytes).collect();
-    let bench = Path::new(env!("CARGO_MANIFEST_DIR")).join("bench");
-    for entry in fs::read_dir(bench).expect("the folder") {
-        let path = entry.expect("an entry").path();
-        files.push(fs::read(path).expect("a plan file"));
-    }
+    let bench = timing::files().expect("the bench files").into_iter();
+    files.extend(bench.map(|file| file.bytes));
     assert!(files.len() > 256, "{} files", files.len());
     files
 }

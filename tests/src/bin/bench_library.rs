@@ -2,29 +2,27 @@
 //! files of bench/: the whole plan; the candidates of every part, where every call reads the whole
 //! file first; and so the reading alone (part 0, which is refused behind it).
 
+use std::error::Error;
 use std::hint::black_box;
-use std::{error::Error, fs, path::Path};
 
-use reference::timing::best_of;
+use reference::timing::{self, best_of, BenchFile};
 use reference::{candidates, file, library, plan, PROGRAM_ROOM};
 
 fn line(name: &str, what: &str, ours: u128, theirs: u128) {
     let ratio = ours as f64 / theirs as f64;
-    println!("{name:<7}{what:<11}{ours:>9}{theirs:>12}{ratio:>7.2}");
+    println!("{name:<8}{what:<10}{ours:>9}{theirs:>12}{ratio:>7.2}");
 }
 
 fn main() -> Result<(), Box<dyn Error>> {
-    let folder = Path::new(env!("CARGO_MANIFEST_DIR")).join("bench");
     println!("ns a run            library   reference  ratio");
-    for name in ["full", "lines", "worst1", "worst3"] {
-        let bytes = fs::read(folder.join(name).with_extension("plan"))?;
+    for BenchFile { name, bytes, .. } in timing::files()? {
         let parts = file::read(&bytes)
             .map_err(|refusal| format!("{name}: {refusal:?}"))?
             .len();
         let mut out = [0u8; PROGRAM_ROOM];
         let ours = best_of(|| library::plan(black_box(&bytes), &mut out));
         let theirs = best_of(|| plan(black_box(&bytes), PROGRAM_ROOM));
-        line(name, "plan", ours, theirs);
+        line(&name, "plan", ours, theirs);
         for (what, numbers) in [("read", 0..=0), ("candidates", 1..=parts)] {
             let ours = best_of(|| {
                 for part in numbers.clone() {
@@ -36,7 +34,7 @@ fn main() -> Result<(), Box<dyn Error>> {
                     let _ = black_box(candidates(black_box(&bytes), part));
                 }
             });
-            line(name, what, ours, theirs);
+            line(&name, what, ours, theirs);
         }
     }
     Ok(())

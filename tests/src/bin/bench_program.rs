@@ -6,6 +6,8 @@ use std::process::{Command, Stdio};
 use std::time::Instant;
 use std::{env, error::Error, fs::File};
 
+use reference::timing::{self, BenchFile};
+
 const RUNS: u32 = 200;
 
 /// Nanoseconds from start to end, best and median of several runs.
@@ -30,12 +32,10 @@ fn run(program: &Path, file: &Path) -> Result<(u128, u128), Box<dyn Error>> {
 fn main() -> Result<(), Box<dyn Error>> {
     let ours = PathBuf::from(env::args().nth(1).ok_or("which program?")?);
     let theirs = env::current_exe()?.with_file_name("plan_reference");
-    let folder = Path::new(env!("CARGO_MANIFEST_DIR")).join("bench");
     println!("us a run   program  reference  ratio   medians");
-    for name in ["full", "lines", "worst1", "worst3"] {
-        let file = folder.join(name).with_extension("plan");
-        let (ours, ours_median) = run(&ours, &file)?;
-        let (theirs, theirs_median) = run(&theirs, &file)?;
+    for BenchFile { name, path, .. } in timing::files()? {
+        let (ours, ours_median) = run(&ours, &path)?;
+        let (theirs, theirs_median) = run(&theirs, &path)?;
         let ratio = ours as f64 / theirs as f64;
         println!(
             "{name:<8}{:>10}{:>11}{ratio:>7.2}   {} {}",
