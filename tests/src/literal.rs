@@ -60,6 +60,28 @@ fn is_text(line: &[u8]) -> bool {
     line.ends_with(&[10]) && line[..line.len() - 1].iter().all(good)
 }
 
+/// A line of which question 2 has the answer yes: where its byte 10 and its first five tabs stand.
+#[derive(Clone, Debug, Default, PartialEq, Eq)]
+pub struct Line {
+    pub end: usize,
+    pub tabs: Vec<usize>,
+}
+
+/// The line that begins at this place of the file, if question 2 has the answer yes.
+pub fn line_at(file: &[u8], start: usize) -> Option<Line> {
+    let rest = file.get(start..)?;
+    let line = rest.split_inclusive(|&byte| byte == 10).next()?;
+    if !is_text(line) {
+        return None;
+    }
+    let end = start + line.len() - 1;
+    let tabs = (start..end).filter(|&place| file[place] == 9).take(5);
+    Some(Line {
+        end,
+        tabs: tabs.collect(),
+    })
+}
+
 /// The first field of every record.
 fn words(records: &[Vec<String>]) -> Vec<&str> {
     records.iter().map(|fields| fields[0].as_str()).collect()

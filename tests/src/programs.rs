@@ -6,6 +6,7 @@ use std::path::{Path, PathBuf};
 
 use crate::by_hand::{SUPPLIES, WEIGHINGS};
 use crate::file::MOST_PARTS;
+use crate::literal::{self, Line};
 use crate::system::{Bound, Row};
 use crate::{candidates, name, number_and_place, plan, printed, supply_answer, weigh};
 
@@ -26,7 +27,7 @@ pub const FIGURES: Program = Program {
 };
 
 /// Every program.
-pub const ALL: [Program; 5] = [
+pub const ALL: [Program; 6] = [
     Program {
         name: "plan",
         by_reference: listing_of_stdin,
@@ -40,6 +41,10 @@ pub const ALL: [Program; 5] = [
     Program {
         name: "by_hand",
         by_reference: supplies_and_weighings,
+    },
+    Program {
+        name: "scanned",
+        by_reference: lines_of_files,
     },
 ];
 
@@ -184,4 +189,26 @@ fn write_weighing(out: &mut Vec<u8>, list: &[(u64, u64, u64)]) -> io::Result<()>
     }
     out.push(b'\n');
     Ok(())
+}
+
+/// `scanned`: behind a line with a file's name, each place of it and the one behind its last byte;
+/// of the line that begins there 1 or 0 for question 2, where its byte 10 stands, how many of its
+/// first five tabs there are, and where these stand. What there is not is 0.
+fn lines_of_files(program: &Program) -> io::Result<Vec<u8>> {
+    let mut out = Vec::new();
+    for NamedFile { name, bytes } in program.files()? {
+        writeln!(out, "== {name}")?;
+        for place in 0..=bytes.len() {
+            let line = literal::line_at(&bytes, place);
+            let good = u8::from(line.is_some());
+            let Line { end, mut tabs } = line.unwrap_or_default();
+            write!(out, "{place}\t{good}\t{end}\t{}", tabs.len())?;
+            tabs.resize(5, 0);
+            for tab in tabs {
+                write!(out, "\t{tab}")?;
+            }
+            out.push(b'\n');
+        }
+    }
+    Ok(out)
 }

@@ -688,6 +688,31 @@ fn r15_all_questions_of_a_line_before_the_next() {
     );
 }
 
+#[test]
+fn m102_every_byte_behind_tabs() {
+    for before in 0..=7 {
+        for byte in 0..=255 {
+            let file = [&b"\t".repeat(before), &[byte][..], b"\n"].concat();
+            // How many tabs the first line has, and how many bytes before its byte 10.
+            let found = match byte {
+                9 => Some((before + 1, before + 1)),
+                10 => Some((before, before)),
+                33..=126 => Some((before, before + 1)),
+                _ => None,
+            };
+            let line = found.map(|(tabs, end)| literal::Line {
+                end,
+                tabs: (0..tabs.min(5)).collect(),
+            });
+            assert_eq!(literal::line_at(&file, 0), line, "{before} tabs, {byte}");
+            let number = if line.is_some() { 3 } else { 2 };
+            assert_eq!(planned(&file), (number, 1), "{before} tabs, {byte}");
+        }
+    }
+    assert_eq!(literal::line_at(b"a\n", 2), None);
+    assert_eq!(literal::line_at(b"a\n", 3), None);
+}
+
 // ---- readings of the numbers ----
 
 #[test]
