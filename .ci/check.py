@@ -8,6 +8,7 @@ import sys
 from pathlib import Path
 
 sys.dont_write_bytecode = True
+from papers import check_notes, check_requests, check_trace
 from statements import check_quotes, check_statements, check_uses, source
 
 # What a caller may ask with any input: what planner passes on, what planner_c exports, and what the program prints.
@@ -103,7 +104,7 @@ def check_contracts(top):
         yield f'{name}: an operation whose signature was not found'
 
 
-# ---- docs/TRACE.md
+# ---- names in docs/TRACE.md
 
 def declarations(text):
     """What a file of definitions or proofs declares: definitions, laws, records, fields, constructors."""
@@ -122,8 +123,8 @@ def declared(top, name):
     return found
 
 
-def check_trace(top):
-    """docs/TRACE.md names only what exists, and has an entry for each sentence of docs/PAPER-01.md and for nothing else."""
+def check_names(top):
+    """docs/TRACE.md names only what exists: a file, or what a crate declares."""
     trace = (top / 'docs' / 'TRACE.md').read_text()
     known = {name: declared(top, name) for name in crates(top)}
     for quoted in sorted(set(re.findall(r'`([^`\n]+)`', trace))):
@@ -135,18 +136,6 @@ def check_trace(top):
             yield f'docs/TRACE.md: `{quoted}` is neither a file nor `crate name`'
         elif name not in known[crate]:
             yield f'docs/TRACE.md: the crate {crate} declares no {name}'
-    entries = dict(re.findall(r'^\| (\w+) \|(.*)\|$', trace, re.M))
-    entries.pop('mark', None)
-    marks = re.findall(r'^- (\w+)\. ', (top / 'docs' / 'PAPER-01.md').read_text(), re.M)
-    if not marks:
-        yield 'docs/PAPER-01.md: no sentence with a mark'
-    for mark in marks:
-        if mark not in entries:
-            yield f'docs/TRACE.md: sentence {mark} has no entry'
-        elif not entries[mark].strip(' –|'):
-            yield f'docs/TRACE.md: the entry of sentence {mark} is empty'
-    for mark in sorted(set(entries) - set(marks)):
-        yield f'docs/TRACE.md: the entry {mark} is of no sentence'
 
 
 # ---- must-fail edits
@@ -281,7 +270,8 @@ def check_tests(top):
 
 
 CHECKS = [
-    check_contracts, check_trace, check_statements, check_uses, check_quotes, check_edits, check_shut_outs, check_theorems, check_table, check_example_a, check_verdicts, check_tests,
+    check_contracts, check_names, check_trace, check_requests, check_notes, check_statements, check_uses, check_quotes,
+    check_edits, check_shut_outs, check_theorems, check_table, check_example_a, check_verdicts, check_tests,
 ]
 
 if __name__ == '__main__':

@@ -11,6 +11,7 @@ from pathlib import Path
 
 sys.dont_write_bytecode = True
 import check
+import papers
 import statements
 
 HERE = Path(__file__).resolve().parent
@@ -61,6 +62,31 @@ TRACE = '''| mark | definition | theorem or contract | test |
 | F12 | – | `planning plan` | `docs/PAPER-01.md`, `must-fail/` |
 | D1 | `planner Demand1` | – | – |
 '''
+M_102, LANDED = 'docs/landings/m-102.md', 'Landed: docs/landings/m-102.md.'
+NOTE = '''# M-102: lines walked once
+
+## Moved
+
+- Definitions: one new.
+- Promises: none.
+- Proofs: one new.
+
+## Stayed
+
+- Definitions: all others.
+- Promises: all.
+- Proofs: all others.
+
+## Check
+
+All crates: 4 min 19 s before, 1 h 2 min after.
+
+## Changed
+
+- Lines: specs +9 −0, src +0 −0, proofs +31 −2.
+- Crates: scan.
+- Renames: none.
+'''
 DEMAND = """-- Demand 1 as a statement.
 use Rattle.answers.specs.Answers.{HandedOver}
 
@@ -93,6 +119,12 @@ def log(name, lines):
     return lines.replace('@', f'/a place/target/must-fail/{name}/')
 
 
+def request(name, landed='Not landed.'):
+    """The section of paper 02 on a request, or on all of them."""
+    head = f'## {name}\n' if name == papers.ALL else f'## {name} A title\n\n{landed}\n'
+    return f'\n{head}\n' + ''.join(f'- {mark}. A sentence.\n' for mark in papers.wanted_marks(name))
+
+
 def right_tree():
     """The files of a tree without a fault, by path."""
     rows = [f'at "{letter}" (refuses [] {row} 1)\n' for letter, count in check.ROWS.items() for row in range(count)]
@@ -114,7 +146,10 @@ def right_tree():
         'crates/answers/specs/Choice.antt': 'pub record Choice : Type 0 where\n  pub rows : List Row\n',
         'crates/examples/specs/WrongPlanners.antt': 'use Rattle.planner.specs.Demand1.{Demand1, Demand3}\nabbrev pub ShutOut : Type 0\nShutOut = Demand3 → ⊥\n',
         'docs/PAPER-01.md': '- I1. Times are whole ticks.\n- F12. A name.\n- D1. Demand 1: Whoever asks gets an answer. A refusal writes nothing.\n',
-        'docs/TRACE.md': TRACE,
+        'docs/PAPER-02.md': '# Paper 02\n' + ''.join(request(name, LANDED if name == 'M-102' else 'Not landed.') for name in papers.SENTENCES),
+        'docs/TRACE.md': TRACE + ''.join(f'| {mark} | example A | – | – |\n' for name in (papers.ALL, 'M-102') for mark in papers.wanted_marks(name)),
+        'docs/landings/base-1.md': '# Base 1\n',
+        M_102: NOTE,
         'include/planner.h': '',
         'tests/src/library.rs': '',
         'tests/tests/library.rs': '#[test]\nfn plans() {}\n',
@@ -148,8 +183,10 @@ def right_tree():
 
 
 # Each slip: the check that must report it, a part of what it says, the file, and what stands there in place of what (nothing in place of a whole file: the file is
-# removed; something in place of nothing: it stands at the end).
+# removed; something in place of nothing: it stands at the end, or is a file that was not there).
 DEMAND_1 = 'crates/planner/specs/Demand1.antt'
+PAPER_2, PARTS = 'docs/PAPER-02.md', papers.sections(NOTE)
+ITEMS = [(heading, *line.partition(':')[::2]) for heading, text in PARTS for line in text.splitlines() if line.startswith('- ')]
 CLAUSE = '    ensures result { λ r. ⌜ r ≡ ceilDiv t period ⌝ }'
 LOG, DOWN, STEP = 'target/must-fail/planning/plan_low/.log', 'target/must-fail/least/down/.log', 'target/must-fail/least/step/.log'
 SLIPS = [
@@ -175,16 +212,55 @@ SLIPS = [
     (check.check_contracts, 'least::ceil_div: an ensures that says nothing', 'crates/least/src/lib.rt', 'r ≡ ceilDiv t period', 'ceilDiv t period ≡ ceilDiv t period'),
     (check.check_contracts, 'least::ceil_div: an ensures that says nothing', 'crates/least/src/lib.rt', '⌜ r ≡ ceilDiv t period ⌝', '⊤'),
     (check.check_contracts, 'planning::plan: an ensures that says nothing', 'crates/planning/src/lib.rt', '⌜ r ≡ a ⌝', '⌜ (r ≡ r) ⌝'),
-    (check.check_trace, 'the crate least declares no ceilDiv', 'crates/least/specs/Round.antt', 'pub ceilDiv : ℕ → ℕ\n', '{-\npub ceilDiv : ℕ → ℕ\n{- both -} -}\n'),
-    (check.check_trace, 'the crate least declares no floorDiv', 'docs/TRACE.md', 'ceilDiv', 'floorDiv'),
-    (check.check_trace, 'the crate least declares no ceilDiv', 'crates/least/specs/Round.antt', 'pub ceilDiv', '-- pub ceilDiv'),
-    (check.check_trace, 'the crate least declares no must-fail/down', 'crates/least/must-fail/down.edit', None, None),
-    (check.check_trace, 'no file docs/PAPER-02.md', 'docs/TRACE.md', 'PAPER-01', 'PAPER-02'),
-    (check.check_trace, 'neither a file nor', 'docs/TRACE.md', '`planning plan`', '`nowhere plan`'),
+    (check.check_names, 'the crate least declares no ceilDiv', 'crates/least/specs/Round.antt', 'pub ceilDiv : ℕ → ℕ\n', '{-\npub ceilDiv : ℕ → ℕ\n{- both -} -}\n'),
+    (check.check_names, 'the crate least declares no floorDiv', 'docs/TRACE.md', 'ceilDiv', 'floorDiv'),
+    (check.check_names, 'the crate least declares no ceilDiv', 'crates/least/specs/Round.antt', 'pub ceilDiv', '-- pub ceilDiv'),
+    (check.check_names, 'the crate least declares no must-fail/down', 'crates/least/must-fail/down.edit', None, None),
+    (check.check_names, 'no file docs/PAPER-03.md', 'docs/TRACE.md', 'PAPER-01', 'PAPER-03'),
+    (check.check_names, 'neither a file nor', 'docs/TRACE.md', '`planning plan`', '`nowhere plan`'),
     (check.check_trace, 'sentence F12 has no entry', 'docs/TRACE.md', '| F12 |', '| F13 |'),
     (check.check_trace, 'the entry F13 is of no sentence', 'docs/TRACE.md', '| F12 |', '| F13 |'),
     (check.check_trace, 'the entry of sentence I1 is empty', 'docs/TRACE.md', '`least ceilDiv` | – | `least must-fail/down`', '– | – | –'),
     (check.check_trace, 'no sentence with a mark', 'docs/PAPER-01.md', '- I1. Times are whole ticks.\n- F12. A name.\n- D1. ', 'Times.\n'),
+    (check.check_trace, 'two sentences have the mark I1', 'docs/PAPER-01.md', '- F12. ', '- I1. '),
+    (check.check_trace, 'two sentences have the mark Ma', 'docs/PAPER-01.md', '- F12. ', '- Ma. '),
+    (check.check_trace, 'sentence I1 has two entries', 'docs/TRACE.md', '', '| I1 | – | – | – |\n'),
+    (check.check_trace, 'sentence Mb has no entry', 'docs/TRACE.md', '| Mb |', '| Md |'),
+    (check.check_trace, 'sentence M102e has no entry', 'docs/TRACE.md', '| M102e | example A | – | – |\n', ''),
+    (check.check_trace, 'the entry of sentence M102c is empty', 'docs/TRACE.md', '| M102c | example A |', '| M102c | – |'),
+    (check.check_trace, 'the entry M102f is of no sentence', 'docs/TRACE.md', '', '| M102f | example A | – | – |\n'),
+    (check.check_trace, 'the entry M103a is of a request that has not landed', 'docs/TRACE.md', '', '| M103a | example A | – | – |\n'),
+    (check.check_trace, 'the entry M102a is of a request that has not landed', M_102, None, None),
+    (check.check_trace, 'sentence M100a has no entry', 'docs/landings/m-100.md', '', NOTE),
+    (check.check_requests, 'the sentences of M-113 are M113a M113b M113c M113d M113e, and must be', PAPER_2, '- M113f. A sentence.\n', ''),
+    (check.check_requests, 'the sentences of M-103 are M103a M103b M103d M103e, and must be', PAPER_2, '- M103c. A sentence.\n', ''),
+    (check.check_requests, 'the sentences of M-103 are M103a M103b M103c M103d M103f, and must be', PAPER_2, '- M103e.', '- M103f.'),
+    (check.check_requests, 'the sentences of M-103 are M103a M103b M103c M103d, and must be', PAPER_2, '- M103e. A sentence.', '- M103e.'),
+    (check.check_requests, 'the sentences of M-103 are M103a M103c M103b M103d M103e, and must be', PAPER_2, 'b. A sentence.\n- M103c.', 'c. A sentence.\n- M103b.'),
+    (check.check_requests, 'the sentences of All requests are Ma Mb, and must be Ma Mb Mc', PAPER_2, '- Mc. A sentence.\n', ''),
+    (check.check_requests, 'M-111, M-113, M-112, and must be All requests, M-100, M-101', PAPER_2, request('M-112') + request('M-113'), request('M-113') + request('M-112')),
+    (check.check_requests, 'M-106, M-108, M-109, M-110, M-111, M-112, M-113, and must be', PAPER_2, request('M-107'), ''),
+    (check.check_requests, 'M-112, M-113, M-114, and must be', PAPER_2, '', '\n## M-114 A title\n\nNot landed.\n\n- M114a. A sentence.\n'),
+    (check.check_requests, 'the sections are none, and must be All requests', PAPER_2, None, None),
+    (check.check_requests, 'M-113 says `Landed: docs/landings/m-113.md.`, and must say `Not landed.`', PAPER_2, request('M-113'), request('M-113', LANDED.replace('102', '113'))),
+    (check.check_requests, f'M-102 says `{LANDED}`, and must say `Not landed.`: {M_102} is not there', M_102, None, None),
+    (check.check_requests, f'M-102 says `Not landed.`, and must say `{LANDED}`: {M_102} is there', PAPER_2, LANDED, 'Not landed.'),
+    (check.check_requests, 'M-102 says `Landed: docs/landings/m-103.md.`, and must say', PAPER_2, LANDED, 'Landed: docs/landings/m-103.md.'),
+    (check.check_requests, 'M-102 says ``, and must say', PAPER_2, LANDED, ''),
+    (check.check_requests, 'M-100 says `Not landed.`, and must say `Landed: docs/landings/m-100.md.`', 'docs/landings/m-100.md', '', NOTE),
+    *((check.check_notes, f'{M_102}: no section `## {heading}`', M_102, f'## {heading}\n', '## More\n') for heading, _ in PARTS),
+    *((check.check_notes, f'{M_102}: its section {heading} has no item `{item}:', M_102, f'{item}:{said}', '') for heading, item, said in ITEMS),
+    *((check.check_notes, f'{M_102}: its section {heading} has no item `{item}:', M_102, f'{item}:{said}', f'{item}:') for heading, item, said in ITEMS),
+    (check.check_notes, 'its section Changed has no item `- Lines: specs .., src .., proofs ..`', M_102, ', src +0 −0', ''),
+    (check.check_notes, 'its section Check has no time before, like `4 min 19 s before`', M_102, '4 min 19 s before', 'some minutes before'),
+    (check.check_notes, 'its section Check has no time after, like `4 min 19 s after`', M_102, ', 1 h 2 min after', ''),
+    (check.check_notes, f'{M_102}: its first line is not `# M-102: ..`', M_102, '# M-102:', '# M-103:'),
+    (check.check_notes, f'{M_102}: its first line is not `# M-102: ..`', M_102, '# M-102: lines walked once\n', '# M-102:\n'),
+    (check.check_notes, f'{M_102}: 121 lines, and a short note has at most 120', M_102, '', '\n' * (121 - len(NOTE.splitlines()))),
+    (check.check_notes, f'{M_102}: something in it is still TODO', M_102, 'scan.', 'TODO.'),
+    (check.check_notes, 'docs/landings/m-114.md: a note of no request in docs/PAPER-02.md', 'docs/landings/m-114.md', '', NOTE.replace('M-102', 'M-114')),
+    (check.check_notes, 'docs/landings/m102.md: a note of no request in docs/PAPER-02.md', 'docs/landings/m102.md', '', NOTE),
+    (check.check_notes, f'{M_102}: a note of no request in docs/PAPER-02.md', PAPER_2, '## M-102 A', '## M-102A'),
     (check.check_statements, f'DEMANDS.md: Demand1.untouched is not so on {DEMAND_1}', DEMAND_1, '⊎ Refusal s\n  pub untouched : (s : List ℕ) → Unwritten s\n', '⊎ Refusal s\n'),
     (check.check_statements, f'DEMANDS.md: Demand1.plan is not so on {DEMAND_1}', DEMAND_1, '⊎ Refusal s', '⊎ Unit'),
     (check.check_statements, f'{DEMAND_1}: Demand1.plan is not so in docs/DEMANDS.md', DEMAND_1, '⊎ Refusal s', '⊎ Unit'),
@@ -261,7 +337,7 @@ class Checks(unittest.TestCase):
         folder = tempfile.TemporaryDirectory()
         cls.addClassCleanup(folder.cleanup)
         cls.top = Path(folder.name)
-        scripts = {f'.ci/{name}': (HERE / name).read_text() for name in ('check.py', 'statements.py')}
+        scripts = {f'.ci/{name}': (HERE / name).read_text() for name in ('check.py', 'papers.py', 'statements.py')}
         for path, text in {**right_tree(), **scripts}.items():
             (cls.top / path).parent.mkdir(parents=True, exist_ok=True)
             (cls.top / path).write_text(text)
@@ -270,16 +346,18 @@ class Checks(unittest.TestCase):
     def slip(self, path, old, new):
         """The tree with one slip."""
         file = self.top / path
-        text = file.read_text()
+        text = file.read_text() if file.exists() else None
         if old is None:
             file.unlink()
+        elif old == '':
+            file.write_text((text or '') + new)
         else:
-            self.assertTrue(old == '' or text.count(old) == 1, f'{old!r} stands {text.count(old)} times')
-            file.write_text(text.replace(old, new) if old else text + new)
+            self.assertEqual(text.count(old), 1, f'how often {old!r} stands in {path}')
+            file.write_text(text.replace(old, new))
         try:
             yield
         finally:
-            file.write_text(text)
+            file.unlink() if text is None else file.write_text(text)
 
     def script(self):
         run = subprocess.run([sys.executable, self.top / '.ci' / 'check.py'], capture_output=True, text=True)
