@@ -14,7 +14,7 @@ use Rattle.least.proofs.Numbers.{PassesBehind, behind-unique}
 use Rattle.text.specs.Bytes.{Line, linesOf}
 use Rattle.scan.specs.declared.Scanned.{Scanned}
 use Rattle.scan.specs.Line.{lineIsGood}
-use Rattle.scan.specs.Scan.{startBehind, isTab, TabAt, Found, ScanIs, EveryLineScanned}
+use Rattle.scan.specs.Scan.{startBehind, isTab, TabAt, Found, ScanIs, EveryLineScanned, ScanSettled}
 use Rattle.scan.specs.Code.{bodyOf, firstLine, lineAt}
 use Rattle.scan.proofs.FirstLine.{first-scanned}
 use Rattle.scan.proofs.Lines.{lines-first, theLine}
@@ -40,45 +40,44 @@ pub every-line-scanned : EveryLineScanned lineAt
 every-line-scanned s above l behind e = subst (λ (k : Line). ScanIs k (startBehind above) (lineAt s (startBehind above))) (line-behind s above l behind e) (first-scanned s (startBehind above))
 
 -- the words settle every number
-at-tab : (bs : List ℕ) (k i : ℕ) → TabAt bs k i → PassesBehind isTab 0 bs k i
+passes-behind : (bs : List ℕ) (k i : ℕ) → TabAt bs k i → PassesBehind isTab 0 bs k i
 unfolding isTab
-at-tab bs k i t = record { within = t .within; passes = eq-eqb _ _ (t .tab); before = t .before }
+passes-behind bs k i t = record { within = t .within; passes = eq-eqb _ _ (t .tab); before = t .before }
 
-module _ (l : Line) (at : ℕ) (r q : Scanned) where
-  abbrev placeOf : Scanned → ℕ → ℕ
-  placeOf x k = getD (x .tabs .place) k 0
+abbrev placeOf : Scanned → ℕ → ℕ
+placeOf r k = getD (r .tabs .place) k 0
 
-  same-place : Found l at r → Found l at q → (k : ℕ) → placeOf r k ≡ placeOf q k
-  same-place f g k = go (decLt k (r .tabs .count))
-    where
-      same : r .tabs .count ≡ q .tabs .count
-      same = f .count ∙ sym (g .count)
+same-place : (l : Line) (at : ℕ) (r q : Scanned) → Found l at r → Found l at q → (k : ℕ) → placeOf r k ≡ placeOf q k
+same-place l at r q f g k = go (decLt k (r .tabs .count))
+  where
+    same : r .tabs .count ≡ q .tabs .count
+    same = f .count ∙ sym (g .count)
 
-      go : Dec (k < r .tabs .count) → placeOf r k ≡ placeOf q k
-      go (yes h) =
-          let (i, e, t) = f .place k h in
-          let (j, d, u) = g .place k (rw same at h) in
-          e ∙ ap (λ (n : ℕ). at + n) (behind-unique isTab 0 (l .body) k i j (at-tab (l .body) k i t) (at-tab (l .body) k j u)) ∙ sym d
-      go (no h) = f .unused k (omega arith) ∙ sym (g .unused k (omega (arith, same)))
+    go : Dec (k < r .tabs .count) → placeOf r k ≡ placeOf q k
+    go (yes h) =
+        let (i, e, t) = f .place k h in
+        let (j, d, u) = g .place k (rw same at h) in
+        e ∙ ap (λ (n : ℕ). at + n) (behind-unique isTab 0 (l .body) k i j (passes-behind (l .body) k i t) (passes-behind (l .body) k j u)) ∙ sym d
+    go (no h) = f .unused k (omega arith) ∙ sym (g .unused k (omega (arith, same)))
 
-  same-places : length (r .tabs .place) ≡ length (q .tabs .place) → ((k : ℕ) → placeOf r k ≡ placeOf q k) → r .tabs .place ≡ q .tabs .place
-  same-places e h = ext-getD 0 (r .tabs .place) (q .tabs .place) e (λ k _. h k)
+same-answer : (r q : Scanned) → r .good ≡ q .good → r .end ≡ q .end → r .tabs .count ≡ q .tabs .count → length (r .tabs .place) ≡ length (q .tabs .place) → ((k : ℕ) → placeOf r k ≡ placeOf q k)
+    → r ≡ q
+same-answer r q g e c n p =
+    let s : r .tabs .place ≡ q .tabs .place = ext-getD 0 (r .tabs .place) (q .tabs .place) n (λ k _. p k) in
+    λ i. record { good = g i; end = e i; tabs = record { count = c i; place = s i } }
 
-  same-answer : r .good ≡ q .good → r .end ≡ q .end → r .tabs .count ≡ q .tabs .count → r .tabs .place ≡ q .tabs .place → r ≡ q
-  same-answer g e c p = λ i. record { good = g i; end = e i; tabs = record { count = c i; place = p i } }
+pub scan-settled : ScanSettled
+scan-settled l at r q w v = go (lineIsGood l) refl
+  where
+    five : length (r .tabs .place) ≡ length (q .tabs .place)
+    five = w .places ∙ sym (v .places)
 
-  pub scan-settled : ScanIs l at r → ScanIs l at q → r ≡ q
-  scan-settled w v = go (lineIsGood l) refl
-    where
-      five : length (r .tabs .place) ≡ length (q .tabs .place)
-      five = w .places ∙ sym (v .places)
-
-      go : (b : Bool) → lineIsGood l ≡ b → r ≡ q
-      go true e =
-          let f = w .good (w .question2 ∙ e) in
-          let g = v .good (v .question2 ∙ e) in
-          same-answer (w .question2 ∙ sym (v .question2)) (f .end ∙ sym (g .end)) (f .count ∙ sym (g .count)) (same-places five (same-place f g))
-      go false e =
-          let f = w .bad (w .question2 ∙ e) in
-          let g = v .bad (v .question2 ∙ e) in
-          same-answer (w .question2 ∙ sym (v .question2)) (f .end ∙ sym (g .end)) (f .count ∙ sym (g .count)) (same-places five (λ k. f .unused k ∙ sym (g .unused k)))
+    go : (b : Bool) → lineIsGood l ≡ b → r ≡ q
+    go true e =
+        let f = w .good (w .question2 ∙ e) in
+        let g = v .good (v .question2 ∙ e) in
+        same-answer r q (w .question2 ∙ sym (v .question2)) (f .end ∙ sym (g .end)) (f .count ∙ sym (g .count)) five (same-place l at r q f g)
+    go false e =
+        let f = w .bad (w .question2 ∙ e) in
+        let g = v .bad (v .question2 ∙ e) in
+        same-answer r q (w .question2 ∙ sym (v .question2)) (f .end ∙ sym (g .end)) (f .count ∙ sym (g .count)) five (λ k. f .unused k ∙ sym (g .unused k))

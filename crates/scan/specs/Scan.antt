@@ -7,6 +7,7 @@
 --   OnlyZeros r     == r says nothing
 --   ScanIs l at r   == r is what the scan says of the line l, which begins at `at`
 --   EveryLineScanned scan == this is what a scan says of every line of every file
+--   ScanSettled     == there is one such answer for a line
 -- Assumes nothing.
 use Prim.Native.Nat.{ℕ, suc, _+_, _<_, _≤_, min}
 use mathlib.Core.Path.{_≡_}
@@ -56,3 +57,6 @@ pub record ScanIs (l : Line) (at : ℕ) (r : Scanned) : Type 0 where
 abbrev pub EveryLineScanned : (List ℕ → ℕ → Scanned) → Type 0
 EveryLineScanned scan =
     (s : List ℕ) (above : List Line) (l : Line) (behind : List Line) → linesOf s ≡ above ++ (l ∷ behind) → ScanIs l (startBehind above) (scan s (startBehind above))
+
+abbrev pub ScanSettled : Type 0
+ScanSettled = (l : Line) (at : ℕ) (r q : Scanned) → ScanIs l at r → ScanIs l at q → r ≡ q
