@@ -31,6 +31,8 @@ THEOREMS = [
     ('planner', 'nothing-free', 'NothingFree'),
     ('examples', 'examples', 'AllHold table'),
     ('examples', 'all-shut-out', 'AllShutOut'),
+    ('scan', 'every-line-scanned', 'EveryLineScanned lineAt'),
+    ('scan', 'scan-settled', 'ScanSettled'),
 ]
 # How many rows of the table of examples each letter has.
 ROWS = {'A': 1, 'B': 5, 'C': 2, 'D': 1, 'E': 1, 'F': 1, 'G': 1, 'H': 1, 'I': 1, 'J': 1, 'K': 5, 'L': 3}

@@ -7,7 +7,7 @@ use reference::local::{self, Local, Pair};
 use reference::random::{self, Random, Sizes};
 use reference::system::{self, Candidates, Row, Weighing};
 use reference::{candidates, literal, name, number_and_place, plan, printed, programs};
-use reference::{supply_answer, weigh, Refusal, PROGRAM_ROOM};
+use reference::{supply_answer, timing, weigh, Refusal, PROGRAM_ROOM};
 
 // ---- helpers ----
 
@@ -711,6 +711,16 @@ fn m102_every_byte_behind_tabs() {
     }
     assert_eq!(literal::line_at(b"a\n", 2), None);
     assert_eq!(literal::line_at(b"a\n", 3), None);
+}
+
+#[test]
+fn m102_the_longest_file_is_a_case_and_timed() {
+    let cases = programs::CASES.files().expect("the cases");
+    let case = cases.iter().find(|file| file.name == "m102-longest");
+    let timed = timing::files().expect("the bench files");
+    let timed = timed.iter().find(|file| file.name == "longest");
+    assert_eq!(case.expect("a case").bytes, timed.expect("timed").bytes);
+    assert_eq!(timed.map(|file| file.bytes.len()), Some(LONGEST_FILE));
 }
 
 // ---- readings of the numbers ----
