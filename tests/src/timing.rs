@@ -1,4 +1,4 @@
-//! Timing: the files that are timed, and nanoseconds a run, best of several rounds.
+//! Timing: the files that are timed, and nanoseconds a run.
 
 use std::hint::black_box;
 use std::path::{Path, PathBuf};
@@ -34,11 +34,34 @@ pub fn files() -> io::Result<Vec<BenchFile>> {
     Ok(files)
 }
 
-const ROUNDS: u32 = 30;
-const ROUND: Duration = Duration::from_millis(5);
+const ROUNDS: u32 = 3;
+const ROUND: Duration = Duration::from_millis(2);
+const DEPTHS: usize = 24;
+
+/// Nanoseconds a run: the median over several depths of the stack, of the best round at each. Where
+/// on the stack a run has its structs can make some per cent of its time.
+pub fn time_of<T>(mut run: impl FnMut() -> T) -> u128 {
+    let mut times: Vec<u128> = (0..DEPTHS)
+        .map(|depth| deeper(depth, &mut || best_round(&mut run)))
+        .collect();
+    times.sort();
+    times[DEPTHS / 2]
+}
+
+/// Calls it so many frames deeper in the stack.
+#[inline(never)]
+fn deeper(frames: usize, call: &mut dyn FnMut() -> u128) -> u128 {
+    let frame = black_box([0u8; 48]);
+    let answer = match frames {
+        0 => call(),
+        _ => deeper(frames - 1, call),
+    };
+    black_box(&frame);
+    answer
+}
 
 /// Nanoseconds a run: several rounds of at least `ROUND` each, the best one counts.
-pub fn best_of<T>(mut run: impl FnMut() -> T) -> u128 {
+fn best_round<T>(run: &mut impl FnMut() -> T) -> u128 {
     let mut best = u128::MAX;
     for _ in 0..ROUNDS {
         let mut runs = 0;

@@ -5,7 +5,7 @@
 use std::error::Error;
 use std::hint::black_box;
 
-use reference::timing::{self, best_of, BenchFile};
+use reference::timing::{self, time_of, BenchFile};
 use reference::{candidates, file, library, plan, PROGRAM_ROOM};
 
 fn line(name: &str, what: &str, ours: u128, theirs: u128) {
@@ -20,16 +20,16 @@ fn main() -> Result<(), Box<dyn Error>> {
             .map_err(|refusal| format!("{name}: {refusal:?}"))?
             .len();
         let mut out = [0u8; PROGRAM_ROOM];
-        let ours = best_of(|| library::plan(black_box(&bytes), &mut out));
-        let theirs = best_of(|| plan(black_box(&bytes), PROGRAM_ROOM));
+        let ours = time_of(|| library::plan(black_box(&bytes), &mut out));
+        let theirs = time_of(|| plan(black_box(&bytes), PROGRAM_ROOM));
         line(&name, "plan", ours, theirs);
         for (what, numbers) in [("read", 0..=0), ("candidates", 1..=parts)] {
-            let ours = best_of(|| {
+            let ours = time_of(|| {
                 for part in numbers.clone() {
                     let _ = black_box(library::candidates(black_box(&bytes), part));
                 }
             });
-            let theirs = best_of(|| {
+            let theirs = time_of(|| {
                 for part in numbers.clone() {
                     let _ = black_box(candidates(black_box(&bytes), part));
                 }

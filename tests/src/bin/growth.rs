@@ -4,7 +4,7 @@
 use std::fmt::Write;
 use std::hint::black_box;
 
-use reference::timing::best_of;
+use reference::timing::time_of;
 use reference::{library, plan, PROGRAM_ROOM};
 
 #[derive(Clone, Copy)]
@@ -42,8 +42,8 @@ fn line(what: &str, value: u64, size: Size) {
         Ok(_) => "planned".to_owned(),
         Err(refusal) => format!("{} ({})", refusal.number, refusal.place),
     };
-    let ours = best_of(|| library::plan(black_box(&bytes), &mut out));
-    let theirs = best_of(|| plan(black_box(&bytes), PROGRAM_ROOM));
+    let ours = time_of(|| library::plan(black_box(&bytes), &mut out));
+    let theirs = time_of(|| plan(black_box(&bytes), PROGRAM_ROOM));
     let ratio = ours as f64 / theirs as f64;
     let length = bytes.len();
     println!("{what:<8}{value:>4}{length:>7}{ours:>10}{theirs:>10}{ratio:>7.2}  {answer}");
