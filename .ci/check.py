@@ -8,7 +8,7 @@ import sys
 from pathlib import Path
 
 sys.dont_write_bytecode = True
-from papers import check_notes, check_requests, check_trace
+from papers import check_notes, check_requests, check_trace, check_words
 from statements import check_quotes, check_statements, check_uses, source
 
 # What a caller may ask with any input: what planner passes on, what planner_c exports, and what the program prints.
@@ -142,12 +142,12 @@ def check_names(top):
 
 # ---- must-fail edits
 
-# How an edit's comment ends: "`a` and `b` must break.", "law `a` must break.", "`a`, so `b`, must break."
+# How an edit's comment ends: "`a` and `b` must break.", "law `a` must break.", "`a`, so `b`, must break." A function's need, as its proof file names it, is `a/returns`.
 NAMES = r'`[^`\s]+`(?:(?:, | and )`[^`\s]+`)*'
 MUST_BREAK = re.compile(rf'({NAMES})(?:, so ({NAMES}),)? must break\.$')
-# An error that says nothing of a fact: the proof no longer fits the code, or something cannot be read.
+# An error that says nothing of a fact: the proof no longer fits the code, something cannot be read, or a tactic gave up.
 VACUOUS = re.compile(r'that can be named from here|has no field|expected type `tie\.Need-[^`]*`,? +but this has type `tie\.Need-'
-                     r'|not in scope|is not declared|expected an expression|Parse|cannot be read')
+                     r'|not in scope|is not declared|expected an expression|Parse|cannot be read|met a bound of its own')
 # An error that is there only because of another one.
 FOLLOWS = re.compile(r'was not admitted|, which is not proved')
 
@@ -155,6 +155,12 @@ FOLLOWS = re.compile(r'was not admitted|, which is not proved')
 def folder(fn):
     """Where the proof of a function stands."""
     return f'proofs/{fn.replace("::", "/")}/'
+
+
+def is_of(thing, place, law):
+    """Whether an error at this place, in this law, is one of what must break: a function, one of its needs, or a law."""
+    fn, _, need = thing.partition('/')
+    return place.startswith(folder(fn)) and need in ('', law) or law == thing and place.count('/') == 1
 
 
 def edits(top):
@@ -194,7 +200,7 @@ def check_edits(top):
         elif found and VACUOUS.search(found[0][2]):
             yield f'{name}: refused for a vacuous reason: {found[0][2][:200]}'
         for thing in first + then:
-            own = [said for place, law, said in found if place.startswith(folder(thing)) or law == thing and place.count('/') == 1]
+            own = [said for place, law, said in found if is_of(thing, place, law)]
             facts = [said for said in own if not FOLLOWS.search(said)]
             if not own:
                 yield f'{name}: {thing} does not break'
@@ -208,7 +214,7 @@ def check_shut_outs(top):
     for crate in crates(top):
         if made.count(crate) < 2 and any(re.search(r'\bfn ', source(path)) for path in (top / 'crates' / crate / 'src').glob('lib.rt')):
             yield f'{crate}: a library with fewer than two wrong versions'
-    named = [f'{crate}::{thing}' for crate, _, first, then in edits(top) for thing in {*first, *then}]
+    named = [f'{crate}::{fn}' for crate, _, first, then in edits(top) for fn in {thing.split('/')[0] for thing in first + then}]
     for name in sorted(OPERATIONS):
         if named.count(name) < 2:
             yield f'{name}: an operation that fewer than two wrong versions name'
@@ -272,7 +278,7 @@ def check_tests(top):
 
 
 CHECKS = [
-    check_contracts, check_names, check_trace, check_requests, check_notes, check_statements, check_uses, check_quotes,
+    check_contracts, check_names, check_words, check_trace, check_requests, check_notes, check_statements, check_uses, check_quotes,
     check_edits, check_shut_outs, check_theorems, check_table, check_example_a, check_verdicts, check_tests,
 ]
 

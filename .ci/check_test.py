@@ -108,6 +108,10 @@ pub record HandedOver (r : Planned) : Type 0 where
   pub result : r ≡ planned
   pub bytes : Written r
 """
+DEMAND_1, SCAN = 'crates/planner/specs/Demand1.antt', 'crates/scan/specs/Scan.antt'
+SCANNED = """abbrev pub EveryLineScanned : Type 0
+EveryLineScanned = (s : List ℕ) → ScanIs s
+"""
 VERDICT = 'logic=proved functions=2 sum=0 native=nat,char,string logic-built=trusted libraries-built=trusted\n'
 
 
@@ -133,7 +137,7 @@ def right_tree():
         'crates/least/specs/Round.antt': 'pub ceilDiv : ℕ → ℕ\n',
         'crates/least/must-fail/down.edit': edit('law `ceil-least`, so `ceil-covers`,'),
         'target/must-fail/least/down/.log': log('least/down', DOWN_LOG),
-        'crates/least/must-fail/step.edit': edit('`Frac::next` and `inner`, so `ceil_div`,'),
+        'crates/least/must-fail/step.edit': edit('`Frac::next/returns` and `inner`, so `ceil_div`,'),
         'target/must-fail/least/step/.log': log('least/step', STEP_LOG),
         'crates/planner/src/lib.rt': 'pub use least::Frac;\n',
         'crates/examples/src/lib.rt': '// Nothing.\n',
@@ -141,24 +145,28 @@ def right_tree():
         'crates/examples/specs/Table.antt': 'abbrev pub table : List Example\ntable =\n    ' + '    ∷ '.join(rows) + '    ∷ []\n\ninfixr 60 _and_\n',
         'crates/plan/src/main.rt': 'fn main() {\n}\n',
         'README.md': 'A file:\n\npart\tcard\t20\nend\n\nits plan:\n\nload\tcard\n',
-        'crates/planner/specs/Demand1.antt': DEMAND,
+        DEMAND_1: DEMAND,
+        SCAN: SCANNED,
         'crates/answers/specs/Answers.antt': HANDED,
         'crates/answers/specs/Choice.antt': 'pub record Choice : Type 0 where\n  pub rows : List Row\n',
         'crates/examples/specs/WrongPlanners.antt': 'use Rattle.planner.specs.Demand1.{Demand1, Demand3}\nabbrev pub ShutOut : Type 0\nShutOut = Demand3 → ⊥\n',
-        'docs/PAPER-01.md': '- I1. Times are whole ticks.\n- F12. A name.\n- D1. Demand 1: Whoever asks gets an answer. A refusal writes nothing.\n',
+        'docs/PAPER-01.md': '## Scope\n\n- I1. Times are whole ticks.\n- F12. A name.\n- D1. Demand 1: Whoever asks gets an answer. A refusal writes nothing.\n',
         'docs/PAPER-02.md': '# Paper 02\n' + ''.join(request(name, LANDED if name == 'M-102' else 'Not landed.') for name in papers.SENTENCES),
-        'docs/TRACE.md': TRACE + ''.join(f'| {mark} | example A | – | – |\n' for name in (papers.ALL, 'M-102') for mark in papers.wanted_marks(name)),
+        'docs/TRACE.md': TRACE + ''.join(f'| {mark} | `least ceilDiv` | – | – |\n' for name in (papers.ALL, 'M-102') for mark in papers.wanted_marks(name)),
         'docs/landings/base-1.md': '# Base 1\n',
         M_102: NOTE,
+        'docs/CHANGELOG.md': '# Changes\n\n## M-102 A title\n\nNo answer changes.\n',
         'include/planner.h': '',
         'tests/src/library.rs': '',
         'tests/tests/library.rs': '#[test]\nfn plans() {}\n',
     }
     files['docs/DEMANDS.md'] = '> Whoever asks gets an answer.\n\n> A refusal writes nothing.\n'
-    for page in ['crates/planner/specs/Demand1.antt', *statements.PAGES, *statements.NAMED]:
-        files.setdefault(page, f'abbrev pub word : Type 0\nword = {page.split("/")[1]}\n')
-        text = files[page].replace('pub planOf : List ℕ → ℕ\n', '').replace('→\n      Listing', '→ Listing')
-        files['docs/DEMANDS.md'] += f'\n`{page}`\n\n```\n{text}```\n'
+    files['docs/REQUESTS.md'] = '> A sentence.\n'
+    for document, pages in statements.PAGES.items():
+        for page in [*([DEMAND_1] if document == statements.DEMANDS else []), *pages, *statements.NAMED[document]]:
+            files.setdefault(page, f'abbrev pub word : Type 0\nword = {page.split("/")[1]}\n')
+            text = files[page].replace('pub planOf : List ℕ → ℕ\n', '').replace('→\n      Listing', '→ Listing')
+            files[document] += f'\n`{page}`\n\n```\n{text}```\n'
     for crate, name, says in check.THEOREMS:
         path = f'crates/{crate}/proofs/Theorems.antt'
         files[path] = files.get(path, '') + f'pub {name} : {says}\n{name} = refl\n'
@@ -184,7 +192,6 @@ def right_tree():
 
 # Each slip: the check that must report it, a part of what it says, the file, and what stands there in place of what (nothing in place of a whole file: the file is
 # removed; something in place of nothing: it stands at the end, or is a file that was not there).
-DEMAND_1 = 'crates/planner/specs/Demand1.antt'
 PAPER_2, PARTS = 'docs/PAPER-02.md', papers.sections(NOTE)
 ITEMS = [(heading, *line.partition(':')[::2]) for heading, text in PARTS for line in text.splitlines() if line.startswith('- ')]
 CLAUSE = '    ensures result { λ r. ⌜ r ≡ ceilDiv t period ⌝ }'
@@ -213,25 +220,34 @@ SLIPS = [
     (check.check_contracts, 'least::ceil_div: an ensures that says nothing', 'crates/least/src/lib.rt', '⌜ r ≡ ceilDiv t period ⌝', '⊤'),
     (check.check_contracts, 'planning::plan: an ensures that says nothing', 'crates/planning/src/lib.rt', '⌜ r ≡ a ⌝', '⌜ (r ≡ r) ⌝'),
     (check.check_names, 'the crate least declares no ceilDiv', 'crates/least/specs/Round.antt', 'pub ceilDiv : ℕ → ℕ\n', '{-\npub ceilDiv : ℕ → ℕ\n{- both -} -}\n'),
-    (check.check_names, 'the crate least declares no floorDiv', 'docs/TRACE.md', 'ceilDiv', 'floorDiv'),
+    (check.check_names, 'the crate least declares no floorDiv', 'docs/TRACE.md', '| I1 | `least ceilDiv`', '| I1 | `least floorDiv`'),
     (check.check_names, 'the crate least declares no ceilDiv', 'crates/least/specs/Round.antt', 'pub ceilDiv', '-- pub ceilDiv'),
     (check.check_names, 'the crate least declares no must-fail/down', 'crates/least/must-fail/down.edit', None, None),
     (check.check_names, 'no file docs/PAPER-03.md', 'docs/TRACE.md', 'PAPER-01', 'PAPER-03'),
     (check.check_names, 'neither a file nor', 'docs/TRACE.md', '`planning plan`', '`nowhere plan`'),
     (check.check_trace, 'sentence F12 has no entry', 'docs/TRACE.md', '| F12 |', '| F13 |'),
     (check.check_trace, 'the entry F13 is of no sentence', 'docs/TRACE.md', '| F12 |', '| F13 |'),
-    (check.check_trace, 'the entry of sentence I1 is empty', 'docs/TRACE.md', '`least ceilDiv` | – | `least must-fail/down`', '– | – | –'),
+    (check.check_trace, 'the entry of sentence I1 names nothing', 'docs/TRACE.md', '`least ceilDiv` | – | `least must-fail/down`', '– | – | –'),
     (check.check_trace, 'no sentence with a mark', 'docs/PAPER-01.md', '- I1. Times are whole ticks.\n- F12. A name.\n- D1. ', 'Times.\n'),
     (check.check_trace, 'two sentences have the mark I1', 'docs/PAPER-01.md', '- F12. ', '- I1. '),
     (check.check_trace, 'two sentences have the mark Ma', 'docs/PAPER-01.md', '- F12. ', '- Ma. '),
     (check.check_trace, 'sentence I1 has two entries', 'docs/TRACE.md', '', '| I1 | – | – | – |\n'),
     (check.check_trace, 'sentence Mb has no entry', 'docs/TRACE.md', '| Mb |', '| Md |'),
-    (check.check_trace, 'sentence M102e has no entry', 'docs/TRACE.md', '| M102e | example A | – | – |\n', ''),
-    (check.check_trace, 'the entry of sentence M102c is empty', 'docs/TRACE.md', '| M102c | example A |', '| M102c | – |'),
-    (check.check_trace, 'the entry M102f is of no sentence', 'docs/TRACE.md', '', '| M102f | example A | – | – |\n'),
-    (check.check_trace, 'the entry M103a is of a request that has not landed', 'docs/TRACE.md', '', '| M103a | example A | – | – |\n'),
+    (check.check_trace, 'sentence M102e has no entry', 'docs/TRACE.md', '| M102e | `least ceilDiv` | – | – |\n', ''),
+    (check.check_trace, 'the entry of sentence M102c names nothing', 'docs/TRACE.md', '| M102c | `least ceilDiv` |', '| M102c | – |'),
+    (check.check_trace, 'the entry of sentence M102c names nothing', 'docs/TRACE.md', '| M102c | `least ceilDiv` |', '| M102c | see below |'),
+    (check.check_trace, 'the entry M102f is of no sentence', 'docs/TRACE.md', '', '| M102f | `least ceilDiv` | – | – |\n'),
+    (check.check_trace, 'the entry M103a is of a request that has not landed', 'docs/TRACE.md', '', '| M103a | `least ceilDiv` | – | – |\n'),
     (check.check_trace, 'the entry M102a is of a request that has not landed', M_102, None, None),
     (check.check_trace, 'sentence M100a has no entry', 'docs/landings/m-100.md', '', NOTE),
+    (check.check_words, 'the words of a section are others: no line `', PAPER_2, '- M103c. A sentence.', '- M103c. A word.'),
+    (check.check_words, 'no section has the words of the line `', PAPER_2, '- M103c. A sentence.', '- M103c. A word.'),
+    (check.check_words, 'the words of a section are others: no line `', PAPER_2, '## M-104 A title', '## M-104 Another'),
+    (check.check_words, 'the words of a section are others: no line `', 'docs/PAPER-01.md', 'whole ticks', 'ticks'),
+    (check.check_words, 'the words of a section are others: no line `', papers.WORDS, None, None),
+    (check.check_requests, 'docs/CHANGELOG.md: nothing on M-102', 'docs/CHANGELOG.md', '## M-102', '## M-103'),
+    (check.check_requests, 'docs/CHANGELOG.md: nothing on M-102', 'docs/CHANGELOG.md', 'No answer changes.', ''),
+    (check.check_requests, 'docs/CHANGELOG.md: nothing on M-102', 'docs/CHANGELOG.md', None, None),
     (check.check_requests, 'the sentences of M-113 are M113a M113b M113c M113d M113e, and must be', PAPER_2, '- M113f. A sentence.\n', ''),
     (check.check_requests, 'the sentences of M-103 are M103a M103b M103d M103e, and must be', PAPER_2, '- M103c. A sentence.\n', ''),
     (check.check_requests, 'the sentences of M-103 are M103a M103b M103c M103d M103f, and must be', PAPER_2, '- M103e.', '- M103f.'),
@@ -276,11 +292,17 @@ SLIPS = [
     (check.check_statements, 'Table.antt: table is not so in', 'crates/examples/specs/Table.antt', 'at "E" (refuses [] 0 1)', 'at "E" (refuses [] 0 2)'),
     (check.check_statements, 'DEMANDS.md: a block with no page named before it', 'docs/DEMANDS.md', f'`{DEMAND_1}`\n', 'A page:\n'),
     (check.check_statements, f'DEMANDS.md: pub is not so on {DEMAND_1}', 'docs/DEMANDS.md', f'`{DEMAND_1}`\n\n```\n', f'`{DEMAND_1}`\n\n```\n  pub plan : ℕ\n'),
+    (check.check_statements, f'docs/REQUESTS.md: EveryLineScanned is not so on {SCAN}', SCAN, '→ ScanIs s', '→ length s < 0 → ScanIs s'),
+    (check.check_statements, f'{SCAN}: EveryLineScanned is not so in docs/REQUESTS.md', SCAN, '→ ScanIs s', '→ length s < 0 → ScanIs s'),
+    (check.check_statements, f'{SCAN}: EveryLineScanned is not so in docs/REQUESTS.md', 'docs/REQUESTS.md', None, None),
     (check.check_uses, f'{DEMAND_1}: HandedOver is not that of crates/answers/specs/Answers.antt', DEMAND_1, 'answers.specs.Answers', 'answers.specs.Weak'),
     (check.check_uses, f'WrongPlanners.antt: Demand3 is not that of {DEMAND_1}', 'crates/examples/specs/WrongPlanners.antt', 'Demand3}', 'Demand1 as Demand3}'),
     (check.check_uses, f'Theorems.antt: Demand1 is not that of {DEMAND_1}', 'crates/planner/proofs/Theorems.antt', '', 'use Rattle.planner.specs.Weak.Demand1\n'),
     (check.check_quotes, 'no demand has the words: A refusal writes little', 'docs/DEMANDS.md', 'writes nothing', 'writes little'),
     (check.check_quotes, 'of D1 is not quoted: 1: . A refusal writes nothing', 'docs/DEMANDS.md', '> A refusal writes nothing.\n', ''),
+    (check.check_quotes, 'docs/REQUESTS.md: no landed request has the words: A word', 'docs/REQUESTS.md', '> A sentence', '> A word'),
+    (check.check_quotes, 'docs/REQUESTS.md: of M102c is not quoted: A sentence.', 'docs/REQUESTS.md', '> A sentence', '> A word'),
+    (check.check_quotes, 'docs/REQUESTS.md: no landed request has the words: A sentence', M_102, None, None),
     (check.check_quotes, 'docs/PAPER-01.md: no demand', 'docs/PAPER-01.md', '- D1. ', '- '),
     (check.check_edits, 'planning/plan_low: no log', LOG, None, None),
     (check.check_edits, 'planning/plan_low: its comment does not say', 'crates/planning/must-fail/plan_low.edit', 'must break', 'breaks'),
@@ -299,7 +321,9 @@ SLIPS = [
     (check.check_edits, 'least/down: ceil-least does not break', DOWN, 'proofs/Round.antt:1', 'proofs/ceil_div/Proof.antt:1'),
     (check.check_edits, 'least/down: ceil-least breaks for a vacuous reason', DOWN, '`omega`: the goal fails', f'`ceil-none` {FOLLOWS}'),
     (check.check_edits, 'least/down: ceil-covers does not break', DOWN, 'error: `ceil-covers`', 'note: `ceil-covers`'),
-    (check.check_edits, 'least/step: Frac::next does not break', STEP, 'Frac/next', 'Frac/new'),
+    (check.check_edits, 'least/step: Frac::next/returns does not break', STEP, 'Frac/next', 'Frac/new'),
+    (check.check_edits, 'least/step: Frac::next/returns does not break', STEP, 'error: `returns`: `search`', 'error: `returns-2`: `search`'),
+    (check.check_edits, 'least/step: Frac::next/returns breaks for a vacuous reason', STEP, '`search`: no proof of `a`', '`cc` met a bound of its own'),
     (check.check_edits, 'least/step: inner does not break', STEP, 'least::inner: no proof', 'least::outer: no proof'),
     (check.check_edits, 'least/step: inner does not break', STEP, '`search` does not close `returns`, `returns-2`', 'it has a loop'),
     (check.check_edits, 'least/step: ceil_div does not break', STEP, 'ceil_div: not proved; it calls `least::inner`, which is not proved', 'ceil_div: proved'),
@@ -341,6 +365,7 @@ class Checks(unittest.TestCase):
         for path, text in {**right_tree(), **scripts}.items():
             (cls.top / path).parent.mkdir(parents=True, exist_ok=True)
             (cls.top / path).write_text(text)
+        (cls.top / papers.WORDS).write_text(''.join(f'{line}\n' for line in papers.digests(cls.top)))
 
     @contextmanager
     def slip(self, path, old, new):

@@ -1,8 +1,9 @@
-"""The sentences of the two papers: each one that holds has an entry in docs/TRACE.md, no request of paper 02 loses one, and each request that has landed has its note."""
+"""The sentences of the two papers: none changes its words, each one that holds has an entry in docs/TRACE.md, and each request that has landed has its note."""
 import re
+from hashlib import sha256
 from string import ascii_lowercase
 
-PAPER_1, PAPER_2, TRACE, LANDINGS = 'docs/PAPER-01.md', 'docs/PAPER-02.md', 'docs/TRACE.md', 'docs/landings'
+PAPER_1, PAPER_2, TRACE, LANDINGS, CHANGES, WORDS = 'docs/PAPER-01.md', 'docs/PAPER-02.md', 'docs/TRACE.md', 'docs/landings', 'docs/CHANGELOG.md', '.ci/words.txt'
 # The sections of paper 02, in order, and how many sentences each has.
 ALL = 'All requests'
 SENTENCES = {
@@ -35,14 +36,40 @@ def sections(text):
     return list(zip(parts[1::2], parts[2::2]))
 
 
+def sentences(text):
+    """The sentences in a text, in order, as (mark, words)."""
+    return re.findall(r'^- (\w+)\. (\S.*)', text, re.M)
+
+
 def marks(text):
     """The marks of the sentences in a text, in order."""
-    return re.findall(r'^- (\w+)\. \S', text, re.M)
+    return [mark for mark, _ in sentences(text)]
 
 
 def twice(names):
     """Those that are there more than once."""
     return sorted({name for name in names if names.count(name) > 1})
+
+
+# ---- the words
+
+def digests(top):
+    """For each section of the papers a digest of its title and its sentences, as a line of .ci/words.txt."""
+    for paper in (PAPER_1, PAPER_2):
+        for heading, text in sections(page(top, paper)):
+            said = ''.join(f'{mark} {words}\n' for mark, words in [('', heading), *sentences(text)])
+            yield f'{sha256(said.encode()).hexdigest()[:16]} {paper} {heading}'
+
+
+def check_words(top):
+    """The papers have the words of which .ci/words.txt has the digests. Whoever restates a sentence changes its line there too."""
+    kept, found = page(top, WORDS).splitlines(), list(digests(top))
+    for line in found:
+        if line not in kept:
+            yield f'{WORDS}: the words of a section are others: no line `{line}`'
+    for line in kept:
+        if line not in found:
+            yield f'{WORDS}: no section has the words of the line `{line}`'
 
 
 # ---- paper 02
@@ -61,13 +88,19 @@ def has_landed(top, request):
     return request == ALL or (top / note_of(request)).exists()
 
 
+def promised(top):
+    """The sentences of the requests that have landed, in order, as (mark, words)."""
+    return [sentence for name, text in requests(top) if name != ALL and has_landed(top, name) for sentence in sentences(text)]
+
+
 def wanted_marks(request):
     """M100a, M100b, .. of a request; Ma, Mb, .. of all."""
     return [('M' if request == ALL else request.replace('-', '')) + letter for letter in ascii_lowercase[:SENTENCES[request]]]
 
 
 def check_requests(top):
-    """docs/PAPER-02.md has its requests in order, each with all of its sentences, and says that those have landed whose note is there, and no others."""
+    """docs/PAPER-02.md has its requests in order, each with all of its sentences, and says that those have landed whose note is there, and no others; docs/CHANGELOG.md has a section on each of
+    these."""
     found = requests(top)
     names = [name for name, _ in found]
     if names != [*SENTENCES]:
@@ -79,14 +112,15 @@ def check_requests(top):
         said, must = text.partition('\n- ')[0].strip(), f'Landed: {note_of(name)}.' if there else 'Not landed.'
         if name != ALL and said != must:
             yield f'{PAPER_2}: {name} says `{said}`, and must say `{must}`: {note_of(name)} is {"" if there else "not "}there'
+        if name != ALL and there and not any(heading.startswith(f'{name} ') and said.strip() for heading, said in sections(page(top, CHANGES))):
+            yield f'{CHANGES}: nothing on {name}'
 
 
 # ---- docs/TRACE.md
 
 def entries(top):
-    """The entries of docs/TRACE.md, in order, as (mark, what stands beside it); nothing, where only dashes do."""
-    found = re.findall(r'^\| (\w+) \|(.*)\|$', page(top, TRACE), re.M)
-    return [(mark, entry.strip(' –|')) for mark, entry in found if mark != 'mark']
+    """The entries of docs/TRACE.md, in order, as (mark, what stands beside it)."""
+    return [(mark, entry) for mark, entry in re.findall(r'^\| (\w+) \|(.*)\|$', page(top, TRACE), re.M) if mark != 'mark']
 
 
 def check_trace(top):
@@ -105,8 +139,8 @@ def check_trace(top):
     for mark in holding:
         if mark not in made:
             yield f'{TRACE}: sentence {mark} has no entry'
-        elif not beside[mark]:
-            yield f'{TRACE}: the entry of sentence {mark} is empty'
+        elif '`' not in beside[mark]:
+            yield f'{TRACE}: the entry of sentence {mark} names nothing'
     for mark in sorted({*made} - {*holding}):
         yield f'{TRACE}: the entry {mark} is of ' + ('a request that has not landed' if mark in waiting else 'no sentence')
 

@@ -1,19 +1,27 @@
-"""docs/DEMANDS.md beside the pages that it quotes: no statement of theirs is dropped, weakened or added unless the document says so too."""
+"""docs/DEMANDS.md and docs/REQUESTS.md beside the pages that they quote: no statement of theirs is dropped, weakened or added unless the document says so too."""
 import re
 
-DOCUMENT = 'docs/DEMANDS.md'
-# The pages that must be in the document: those of crates/planner/specs, these, and of the others what is named.
-PAGES = [
-    'crates/answers/specs/Choice.antt', 'crates/examples/specs/Table.antt', 'crates/examples/specs/Files.antt', 'crates/examples/specs/WrongPlanners.antt',
-    'crates/candidates/specs/Statement.antt', 'crates/plan_file/specs/Statement.antt', 'crates/refusal/specs/FirstNo.antt', 'crates/least/specs/Each.antt',
-]
+from papers import PAPER_1, page, promised, sentences
+
+DEMANDS, REQUESTS = 'docs/DEMANDS.md', 'docs/REQUESTS.md'
+# The pages that must be in a document: these, for the demands those of crates/planner/specs too, and of the others what is named.
+PAGES = {
+    DEMANDS: [
+        'crates/answers/specs/Choice.antt', 'crates/examples/specs/Table.antt', 'crates/examples/specs/Files.antt', 'crates/examples/specs/WrongPlanners.antt',
+        'crates/candidates/specs/Statement.antt', 'crates/plan_file/specs/Statement.antt', 'crates/refusal/specs/FirstNo.antt', 'crates/least/specs/Each.antt',
+    ],
+    REQUESTS: ['crates/scan/specs/Line.antt', 'crates/scan/specs/Scan.antt'],
+}
 NAMED = {
-    'crates/answers/specs/Answers.antt': ['planned', 'bufferAfter', 'HandedOver', 'PlanAnswered'],
-    'crates/load/specs/Weigh.antt': ['RowFits'],
-    'crates/supply/specs/Signed.antt': ['larger', 'ceilOf', 'signedRound', 'signedAt', 'signedSupply'],
+    DEMANDS: {
+        'crates/answers/specs/Answers.antt': ['planned', 'bufferAfter', 'HandedOver', 'PlanAnswered'],
+        'crates/load/specs/Weigh.antt': ['RowFits'],
+        'crates/supply/specs/Signed.antt': ['larger', 'ceilOf', 'signedRound', 'signedAt', 'signedSupply'],
+    },
+    REQUESTS: {'crates/text/specs/Bytes.antt': ['Line', 'intoLine', 'linesOf']},
 }
 # The crates with the proofs of what the pages say.
-PROVERS = ['answers', 'planner', 'examples']
+PROVERS = ['answers', 'planner', 'examples', 'scan']
 
 
 def without_comments(text, antt):
@@ -70,52 +78,57 @@ def blocks(text):
         yield page, statements(without_comments(block, True))
 
 
-def whole_pages(top):
+def whole_pages(top, document):
     """The pages of which every statement must be in the document."""
-    return [*PAGES, *(str(path.relative_to(top)) for path in (top / 'crates/planner/specs').rglob('*.antt') if path.name != 'Lib.antt')]
+    every = (top / 'crates/planner/specs').rglob('*.antt') if document == DEMANDS else []
+    return [*PAGES[document], *(str(path.relative_to(top)) for path in every if path.name != 'Lib.antt')]
 
 
 def check_statements(top):
-    """Every statement in docs/DEMANDS.md is on the page that is named before it, word for word, and every statement of the pinned pages is in the document."""
-    quoted, whole = {}, whole_pages(top)
-    for page, said in blocks((top / DOCUMENT).read_text()):
-        if not page:
-            yield f'{DOCUMENT}: a block with no page named before it: {sorted(said)[:1]}'
-        quoted.setdefault(page, set()).update(said)
-    for page in sorted({*whole, *NAMED, *quoted} - {''}):
-        there = statements(source(top / page)) if (top / page).exists() else set()
-        wanted = {said for said in there if page in whole or said[0].split('.')[0] in NAMED.get(page, [])}
-        for name, words in sorted(quoted.get(page, set()) - there):
-            yield f'{DOCUMENT}: {name} is not so on {page}: {words}'
-        for name, words in sorted(wanted - quoted.get(page, set())):
-            yield f'{page}: {name} is not so in {DOCUMENT}: {words}'
+    """Every statement in docs/DEMANDS.md and docs/REQUESTS.md is on the page that is named before it, word for word, and every statement of the pinned pages is in the document."""
+    for document in PAGES:
+        quoted, whole = {}, whole_pages(top, document)
+        for source_page, said in blocks(page(top, document)):
+            if not source_page:
+                yield f'{document}: a block with no page named before it: {sorted(said)[:1]}'
+            quoted.setdefault(source_page, set()).update(said)
+        for path in sorted({*whole, *NAMED[document], *quoted} - {''}):
+            there = statements(source(top / path)) if (top / path).exists() else set()
+            wanted = {said for said in there if path in whole or said[0].split('.')[0] in NAMED[document].get(path, [])}
+            for name, words in sorted(quoted.get(path, set()) - there):
+                yield f'{document}: {name} is not so on {path}: {words}'
+            for name, words in sorted(wanted - quoted.get(path, set())):
+                yield f'{path}: {name} is not so in {document}: {words}'
 
 
 def check_uses(top):
     """What a pinned page declares is taken from that page and from no other place, on the pinned pages and in the proofs of PROVERS."""
-    whole = [page for page in whole_pages(top) if (top / page).exists()]
-    homes = {name: page for page in [*whole, *filter(lambda page: (top / page).exists(), NAMED)] for name, _ in statements(source(top / page)) if name[0].isupper() and '.' not in name}
+    whole = [path for document in PAGES for path in whole_pages(top, document) if (top / path).exists()]
+    parts = [path for document in PAGES for path in NAMED[document] if (top / path).exists()]
+    homes = {name: path for path in [*whole, *parts] for name, _ in statements(source(top / path)) if name[0].isupper() and '.' not in name}
     proofs = [path for crate in PROVERS for path in sorted((top / 'crates' / crate / 'proofs').rglob('*.antt'))]
-    for path in [*(top / page for page in whole), *proofs]:
+    for path in [*(top / name for name in whole), *proofs]:
         for module, items in re.findall(r'\buse (\S+?)\.(\{[^}]*\}|\w+$)', source(path), re.M):
             for item in items.strip('{}').split(','):
                 name = item.split()[-1] if item.strip() else ''
-                _, crate, _, page = homes.get(name, '///').split('/')
-                if crate and not re.fullmatch(rf'Rattle.{crate}(?:·specs)?\.specs\.{page[:-5]} {name}', f'{module} {item.strip()}'):
+                _, crate, _, home = homes.get(name, '///').split('/')
+                if crate and not re.fullmatch(rf'Rattle.{crate}(?:·specs)?\.specs\.{home[:-5]} {name}', f'{module} {item.strip()}'):
                     yield f'{path.relative_to(top)}: {name} is not that of {homes[name]}'
 
 
 def check_quotes(top):
-    """The quotes in docs/DEMANDS.md are the demands of docs/PAPER-01.md, whole: nothing is left of them without the quotes, and nothing of a quote is not theirs."""
-    demands = re.findall(r'^- (D\d)\. (.*)', (top / 'docs' / 'PAPER-01.md').read_text(), re.M)
-    quotes = [' '.join(quote.split()).strip(' .,:;…') for quote in re.findall(r'^> (.*)', (top / DOCUMENT).read_text(), re.M)]
-    for quote in quotes:
-        if not any(quote in demand for _, demand in demands):
-            yield f'{DOCUMENT}: no demand has the words: {quote}'
-    for mark, demand in demands:
-        covered = {at for quote in ['Demand', *quotes] for found in re.finditer(re.escape(quote), demand) for at in range(*found.span())}
-        rest = ''.join(' ' if at in covered else letter for at, letter in enumerate(demand))
-        if re.search(r'[a-z]', rest):
-            yield f'{DOCUMENT}: of {mark} is not quoted: {" ".join(rest.split())}'
+    """The quotes in docs/DEMANDS.md are the demands of docs/PAPER-01.md, whole, those in docs/REQUESTS.md the sentences of the requests that have landed: nothing is left of these without the
+    quotes, and nothing of a quote is not theirs."""
+    demands = [(mark, words) for mark, words in sentences(page(top, PAPER_1)) if re.fullmatch(r'D\d', mark)]
     if not demands:
-        yield 'docs/PAPER-01.md: no demand'
+        yield f'{PAPER_1}: no demand'
+    for document, wanted in ((DEMANDS, demands), (REQUESTS, promised(top))):
+        quotes = [' '.join(quote.split()).strip(' .,:;…') for quote in re.findall(r'^> (.*)', page(top, document), re.M)]
+        for quote in quotes:
+            if not any(quote in words for _, words in wanted):
+                yield f'{document}: no {"demand" if document == DEMANDS else "landed request"} has the words: {quote}'
+        for mark, words in wanted:
+            covered = {at for quote in ['Demand', *quotes] for found in re.finditer(re.escape(quote), words) for at in range(*found.span())}
+            rest = ''.join(' ' if at in covered else letter for at, letter in enumerate(words))
+            if re.search(r'[a-z]', rest):
+                yield f'{document}: of {mark} is not quoted: {" ".join(rest.split())}'

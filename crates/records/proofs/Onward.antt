@@ -7,9 +7,9 @@ use mathlib.Core.Path.{_≡_, sym, ap, _∙_}
 use mathlib.Core.Bool.{Bool, true, false}
 use mathlib.Core.List.{List}
 use lib.ListN.{length, getD}
+use Rattle.stretch.specs.Stretch.{bytesOf}
 use Rattle.scan.specs.declared.Scanned.{Scanned}
 use Rattle.scan.specs.Line.{lineIsGood}
-use Rattle.stretch.specs.Stretch.{bytesOf}
 use Rattle.scan.specs.Code.{firstFive, lineAt}
 use Rattle.scan.proofs.Scan.{goodAt}
 use Rattle.scan.proofs.Lines.{theLine, theEnd, theTabs, scanned-good, lines-at, GoodLine, good-line}

@@ -9,8 +9,8 @@ use lib.ListN.{length}
 use Rattle.least.specs.Lists.{pad}
 use Rattle.text.specs.Bytes.{bytes, same}
 use Rattle.text.proofs.Bytes.{same-true}
-use Rattle.scan.specs.declared.Scanned.{Scanned}
 use Rattle.stretch.specs.Stretch.{bytesOf}
+use Rattle.scan.specs.declared.Scanned.{Scanned}
 use Rattle.scan.specs.Code.{firstFive}
 use Rattle.scan.proofs.Scan.{goodAt}
 use Rattle.scan.proofs.Lines.{theLine, theEnd, theTabs}

@@ -6,17 +6,16 @@ use native.Mathlib.Omega.{arith}
 use mathlib.Core.Path.{_≡_, refl, sym, ap, _∙_, subst}
 use mathlib.Core.Bool.{Bool, true, false}
 use mathlib.Core.List.{List, [], _∷_, _++_}
-use borrow.Author.Tests.{eq-eqb}
 use lib.ListN.{length, drop, getD}
 use lib.Seq.{drop-drop, ext-getD}
 use Rattle.least.specs.Lists.{sum}
-use Rattle.least.proofs.Numbers.{PassesBehind, behind-unique}
+use Rattle.least.proofs.Numbers.{behind-unique}
 use Rattle.text.specs.Bytes.{Line, linesOf}
 use Rattle.scan.specs.declared.Scanned.{Scanned}
 use Rattle.scan.specs.Line.{lineIsGood}
-use Rattle.scan.specs.Scan.{startBehind, isTab, TabAt, Found, ScanIs, EveryLineScanned, ScanSettled}
+use Rattle.scan.specs.Scan.{startBehind, isTab, Found, ScanIs, EveryLineScanned, ScanSettled}
 use Rattle.scan.specs.Code.{bodyOf, firstLine, lineAt}
-use Rattle.scan.proofs.FirstLine.{first-scanned}
+use Rattle.scan.proofs.FirstLine.{passes-behind, first-scanned}
 use Rattle.scan.proofs.Lines.{lines-first, theLine}
 
 -- the line behind some lines begins behind their bytes
@@ -40,10 +39,6 @@ pub every-line-scanned : EveryLineScanned lineAt
 every-line-scanned s above l behind e = subst (λ (k : Line). ScanIs k (startBehind above) (lineAt s (startBehind above))) (line-behind s above l behind e) (first-scanned s (startBehind above))
 
 -- the words settle every number
-passes-behind : (bs : List ℕ) (k i : ℕ) → TabAt bs k i → PassesBehind isTab 0 bs k i
-unfolding isTab
-passes-behind bs k i t = record { within = t .within; passes = eq-eqb _ _ (t .tab); before = t .before }
-
 abbrev placeOf : Scanned → ℕ → ℕ
 placeOf r k = getD (r .tabs .place) k 0
 

@@ -6,7 +6,7 @@ use native.Mathlib.Omega.{arith}
 use mathlib.Core.Path.{_≡_, refl, sym, ap, _∙_}
 use mathlib.Core.Bool.{Bool, true, false, cond, false≢true}
 use mathlib.Core.List.{List, []}
-use borrow.Author.Tests.{eqb-true}
+use borrow.Author.Tests.{eq-eqb, eqb-true}
 use lib.ListN.{length, drop, getD, List·getD-eq-default}
 use Rattle.least.specs.Lists.{pad}
 use Rattle.least.proofs.Numbers.{PassesBehind, numbers-length, numbers-each}
@@ -17,9 +17,14 @@ use Rattle.scan.specs.Scan.{isTab, TabAt, Found, OnlyZeros, ScanIs}
 use Rattle.scan.specs.Code.{firstLine, tabsFrom, firstFive, lineAt}
 use Rattle.scan.proofs.Scan.{goodAt, notGood}
 
+-- a tab with k tabs before it is an element that passes with k before it, and the reverse
 tab-at : (bs : List ℕ) (k i : ℕ) → PassesBehind isTab 0 bs k i → TabAt bs k i
 unfolding isTab
 tab-at bs k i p = record { within = p .within; tab = eqb-true _ _ (p .passes); before = p .before }
+
+pub passes-behind : (bs : List ℕ) (k i : ℕ) → TabAt bs k i → PassesBehind isTab 0 bs k i
+unfolding isTab
+passes-behind bs k i t = record { within = t .within; passes = eq-eqb _ _ (t .tab); before = t .before }
 
 -- the first five tabs of a line that begins at `at`
 unused : (ts : List ℕ) (k : ℕ) → min 5 (length ts) ≤ k → getD (pad 5 0 ts) k 0 ≡ 0

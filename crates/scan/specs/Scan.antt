@@ -52,6 +52,7 @@ pub record ScanIs (l : Line) (at : ℕ) (r : Scanned) : Type 0 where
   -- if so, where its first five tabs stand
   pub good : r .good ≡ true → Found l at r
   pub bad : r .good ≡ false → OnlyZeros r
+  -- the array, which is a list here, has five places
   pub places : length (r .tabs .place) ≡ 5
 
 abbrev pub EveryLineScanned : (List ℕ → ℕ → Scanned) → Type 0

@@ -50,12 +50,11 @@ pub fn line_at(s: &[u8], at: usize) -> Scanned
         if b != 9 {
             break;
         }
-        let tab = i;
-        i += 1;
         if count < 5 {
-            place[count] = tab;
+            place[count] = i;
             count += 1;
         }
+        i += 1;
     }
     Scanned {
         good: false,

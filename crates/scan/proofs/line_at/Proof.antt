@@ -2,12 +2,14 @@
 -- Assumes nothing.
 use borrow.Author.Needs.{needs}
 use Prim.Native.Nat.{ℕ, _-_}
-use mathlib.Core.Path.{_≡_, refl, sym, _∙_}
+use native.Mathlib.Omega.{arith}
+use mathlib.Core.Logic.{⊎-elim}
+use mathlib.Core.Path.{_≡_, refl, sym, ap, _∙_}
 use mathlib.Core.List.{List, [], _∷_, _++_}
 use lib.ListN.{length, drop}
 use Rattle.least.specs.Lists.{pad}
 use Rattle.scan.specs.Code.{lineAt, firstFive}
-use Rattle.scan.proofs.Scan.{lineFrom, from-start, at-newline, at-forbidden, at-plain, at-tab, at-end, five-stored, five-full}
+use Rattle.scan.proofs.Scan.{goodAt, lineFrom, from-start, at-newline, at-forbidden, at-plain, at-tab, at-end, five-stored, five-full}
 use Rattle.scan.proofs.line_at.Statement.{statement}
 use Rattle.scan.proofs.line_at.Tie as tie
 
@@ -42,10 +44,8 @@ loop-again c =
 returns : tie.Need-returns Inv-loop μ-loop
 returns c =
     let l = c .before .before .before .before .before in
-    cc (at-newline (l .before .before .args .s .now) (l .loop .i) (l .loop .inv .0) (c .before .before .before .before .loop-test .taken) (c .if2 .taken))
-
-add-i-2 : tie.Need-add-i-2 Inv-loop μ-loop
-add-i-2 c = search needs
+    ap (goodAt (l .loop .i)) (l .loop .inv .1)
+    ∙ sym (l .loop .inv .2 ∙ at-newline (l .before .before .args .s .now) (l .loop .i) (l .loop .inv .0) (c .before .before .before .before .loop-test .taken) (c .if2 .taken))
 
 mul-place : tie.Need-mul-place Inv-loop μ-loop
 mul-place c = search needs
@@ -56,6 +56,9 @@ array-write-place c = search needs
 add-count : tie.Need-add-count Inv-loop μ-loop
 add-count c = search needs
 
+add-i-2 : tie.Need-add-i-2 Inv-loop μ-loop
+add-i-2 c = search needs
+
 loop-less-2 : tie.Need-loop-less-2 Inv-loop μ-loop
 loop-less-2 c = search needs
 
@@ -64,19 +67,10 @@ loop-again-2 c =
     let l = c .before .before .before .before .before .before .before in
     let s = l .before .before .args .s .now in (
       l .loop .inv .0 ++ l .loop .i ∷ [],
-      five-stored _ _ (l .loop .inv .0) (l .loop .i) (l .loop .inv .1) (c .if4 .taken),
-      l .loop .inv .2 ∙ at-tab s (l .loop .i) (l .loop .inv .0) (c .before .before .before .before .before .before .loop-test .taken) (c .before .if3 .left),
-    )
-
-loop-less-3 : tie.Need-loop-less-3 Inv-loop μ-loop
-loop-less-3 c = search needs
-
-loop-again-3 : tie.Need-loop-again-3 Inv-loop μ-loop
-loop-again-3 c =
-    let l = c .before .before .before .before .before .before .before in
-    let s = l .before .before .args .s .now in (
-      l .loop .inv .0 ++ l .loop .i ∷ [],
-      five-full _ _ (l .loop .inv .0) (l .loop .i) (l .loop .inv .1) (c .if4 .left),
+      ⊎-elim
+          (λ w. rw (w .1, w .2) (five-stored _ _ (l .loop .inv .0) (l .loop .i) (l .loop .inv .1) (omega (arith, w .0 .taken))))
+          (λ w. rw (w .1, w .2) (five-full _ _ (l .loop .inv .0) (l .loop .i) (l .loop .inv .1) (w .0 .left)))
+          (c .if4 .came),
       l .loop .inv .2 ∙ at-tab s (l .loop .i) (l .loop .inv .0) (c .before .before .before .before .before .before .loop-test .taken) (c .before .if3 .left),
     )
 
@@ -105,13 +99,11 @@ line-at-spec =
     loop-less
     loop-again
     returns
-    add-i-2
     mul-place
     array-write-place
     add-count
+    add-i-2
     loop-less-2
     loop-again-2
-    loop-less-3
-    loop-again-3
     returns-2
     returns-3)
