@@ -19,7 +19,7 @@ same-length c = search needs
 
 returns : tie.Need-returns
 unfolding planExported
-returns c = let p = c .before .before .before .before .plan in record { answer = p .result; promised = p .ensures; is = cc }
+returns c = let p = c .before .before .before .before .plan in record { answer = p .result; promised = p .ensures; is = λ i. record { number = c .before .number .ensures i; place = c .place .ensures i; written = p .result .written } }
 
 pub planner-plan-spec : {M : Type 1} → statement M
 planner-plan-spec = tie.close (tie.spec plan-requires number-requires place-requires same-length returns)

@@ -13,7 +13,7 @@ place-requires c κs = search needs
 
 returns : tie.Need-returns
 unfolding weighExported
-returns c = cc
+returns c = λ i. record { number = c .before .number .ensures i; place = c .place .ensures i; bounds = c .before .before .before .before .args .a .bounds; load = c .before .before .before .before .args .a .load; row = c .before .before .before .before .args .a .row }
 
 pub weigh-answer-spec : {M : Type 1} → statement M
 weigh-answer-spec = tie.close (tie.spec number-requires place-requires returns)

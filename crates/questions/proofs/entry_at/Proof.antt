@@ -1,7 +1,7 @@
 -- `questions::entry_at` meets its contract: each kind of record has its own function.
 -- Assumes nothing.
-use Rattle.plan_file.specs.Entries.{entryOf}
 use borrow.Author.Needs.{needs}
+use Rattle.plan_file.specs.Entries.{entryOf}
 use Rattle.questions.proofs.entry_at.Statement.{statement}
 use Rattle.questions.proofs.entry_at.Tie as tie
 
@@ -49,19 +49,19 @@ enum-told-2 c = search needs
 
 returns : tie.Need-returns
 unfolding entryOf
-returns c = simp (c .before .before .before .before .r .given .1) (cc)
+returns c = simp (c .before .before .before .before .r .given .1) (rw (c .before .both .ensures) at (c .ask-part .ensures))
 
 returns-2 : tie.Need-returns-2
 unfolding entryOf
-returns-2 c = simp (c .before .before .before .before .before .r2 .given .1) (cc)
+returns-2 c = simp (c .before .before .before .before .before .r2 .given .1) (rw (c .before .both2 .ensures) at (c .ask-task .ensures))
 
 returns-3 : tie.Need-returns-3
 unfolding entryOf
-returns-3 c = simp (c .before .before .before .before .before .before .r3 .given .1) (cc)
+returns-3 c = simp (c .before .before .before .before .before .before .r3 .given .1) (rw (c .before .both3 .ensures) at (c .ask-lock .ensures))
 
 returns-4 : tie.Need-returns-4
 unfolding entryOf
-returns-4 c = simp (c .before .before .before .before .enum-told .given .1) (cc)
+returns-4 c = simp (c .before .before .before .before .enum-told .given .1) (rw (c .before .both5 .ensures, c .before .before .both4 .ensures) at (c .ask-end .ensures))
 
 returns-5 : tie.Need-returns-5
 unfolding entryOf

@@ -13,11 +13,11 @@ enum-told c = search needs
 
 returns : tie.Need-returns
 unfolding ceilingOr0
-returns c = cc
+returns c = simp (c .before .c .given .1)
 
 returns-2 : tie.Need-returns-2
 unfolding ceilingOr0
-returns-2 c = cc
+returns-2 c = simp (c .enum-told .given .1)
 
 pub ceiling-or-0-spec : {M : Type 1} → statement M
 ceiling-or-0-spec = tie.close (tie.spec enum-known-c enum-told returns returns-2)
