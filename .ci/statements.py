@@ -74,8 +74,8 @@ def statements(text):
 
 def blocks(text):
     """The code blocks of the document, as (the page named on the line before, what the block says)."""
-    for page, block in re.findall(r'(?:^`(\S+\.antt)`:?\n\n?)?^```\w*\n(.*?)^```$', text, re.M | re.S):
-        yield page, statements(without_comments(block, True))
+    for named, block in re.findall(r'(?:^`(\S+\.antt)`:?\n\n?)?^```\w*\n(.*?)^```$', text, re.M | re.S):
+        yield named, statements(without_comments(block, True))
 
 
 def whole_pages(top, document):
@@ -88,10 +88,10 @@ def check_statements(top):
     """Every statement in docs/DEMANDS.md and docs/REQUESTS.md is on the page that is named before it, word for word, and every statement of the pinned pages is in the document."""
     for document in PAGES:
         quoted, whole = {}, whole_pages(top, document)
-        for source_page, said in blocks(page(top, document)):
-            if not source_page:
+        for named, said in blocks(page(top, document)):
+            if not named:
                 yield f'{document}: a block with no page named before it: {sorted(said)[:1]}'
-            quoted.setdefault(source_page, set()).update(said)
+            quoted.setdefault(named, set()).update(said)
         for path in sorted({*whole, *NAMED[document], *quoted} - {''}):
             there = statements(source(top / path)) if (top / path).exists() else set()
             wanted = {said for said in there if path in whole or said[0].split('.')[0] in NAMED[document].get(path, [])}
