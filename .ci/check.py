@@ -142,9 +142,10 @@ def check_names(top):
 
 # ---- must-fail edits
 
-# How an edit's comment ends: "`a` and `b` must break.", "law `a` must break.", "`a`, so `b`, must break." A function's need, as its proof file names it, is `a/returns`.
-NAMES = r'`[^`\s]+`(?:(?:, | and )`[^`\s]+`)*'
-MUST_BREAK = re.compile(rf'({NAMES})(?:, so ({NAMES}),)? must break\.$')
+# How an edit's comment ends, behind a colon or a full stop: "`a` and law `b` must break.", "`a`, so `b`, must break." A function's need, as its proof file names it, is `a/returns`.
+NAME = r'(?:laws? |the function )?`[^`\s]+`'
+NAMES = rf'{NAME}(?:(?:, | and ){NAME})*'
+MUST_BREAK = re.compile(rf'[:.] ({NAMES})(?:, so ({NAMES}),)? must break\.$')
 # An error that says nothing of a fact: the proof no longer fits the code, something cannot be read, or a tactic gave up.
 VACUOUS = re.compile(r'that can be named from here|has no field|expected type `tie\.Need-[^`]*`,? +but this has type `tie\.Need-'
                      r'|not in scope|is not declared|expected an expression|Parse|cannot be read|met a bound of its own')
@@ -220,6 +221,22 @@ def check_shut_outs(top):
             yield f'{name}: an operation that fewer than two wrong versions name'
 
 
+# ---- one pass over a line
+
+def check_one_pass(top):
+    """The search of a line for forbidden bytes and tabs is one pass (M102b), which no contract can say: scan has one loop, reads the file at one place of it and goes on by one byte, and the cursor
+    has a line scanned once."""
+    scan, cursor = (source(top / 'crates' / name / 'src' / 'lib.rt') for name in ('scan', 'records'))
+    for what, form, text in (
+        ('scan: a loop', r'\b(?:while|loop|for)\b', scan), ('scan: a place where the file is read', r'\bs\b(?!:|\.len\(\)| \.entry)', scan), ('records: a call of scan::line_at', r'\bline_at\(', cursor),
+    ):
+        if (found := len(re.findall(form, text))) != 1:
+            yield f'{what} stands {found} times, and must stand once'
+    for change in re.findall(r'\bi\s*(?:[-+*/%]?=(?!=)[^;]*);', scan):
+        if not re.fullmatch(r'i (?:= at|\+= 1);', change):
+            yield f'scan: the place in the line moves by `{change}`'
+
+
 # ---- theorems, examples, verdicts
 
 def check_theorems(top):
@@ -279,7 +296,7 @@ def check_tests(top):
 
 CHECKS = [
     check_contracts, check_names, check_words, check_trace, check_requests, check_notes, check_statements, check_uses, check_quotes,
-    check_edits, check_shut_outs, check_theorems, check_table, check_example_a, check_verdicts, check_tests,
+    check_edits, check_shut_outs, check_one_pass, check_theorems, check_table, check_example_a, check_verdicts, check_tests,
 ]
 
 if __name__ == '__main__':

@@ -109,6 +109,7 @@ pub record HandedOver (r : Planned) : Type 0 where
   pub bytes : Written r
 """
 DEMAND_1, SCAN = 'crates/planner/specs/Demand1.antt', 'crates/scan/specs/Scan.antt'
+SCAN_CODE, CURSOR = 'crates/scan/src/lib.rt', 'crates/records/src/lib.rt'
 SCANNED = """abbrev pub EveryLineScanned : Type 0
 EveryLineScanned = (s : List ℕ) → ScanIs s
 """
@@ -147,6 +148,8 @@ def right_tree():
         'README.md': 'A file:\n\npart\tcard\t20\nend\n\nits plan:\n\nload\tcard\n',
         DEMAND_1: DEMAND,
         SCAN: SCANNED,
+        SCAN_CODE: 'let mut i = at;\nwhile i < s.len() {\n    let b = s[i];\n    if b == 10 {\n        return Scanned { good: true, end: i };\n    }\n    i += 1;\n}\n',
+        CURSOR: 'let l = scan::line_at(s, at);\n',
         'crates/answers/specs/Answers.antt': HANDED,
         'crates/answers/specs/Choice.antt': 'pub record Choice : Type 0 where\n  pub rows : List Row\n',
         'crates/examples/specs/WrongPlanners.antt': 'use Rattle.planner.specs.Demand1.{Demand1, Demand3}\nabbrev pub ShutOut : Type 0\nShutOut = Demand3 → ⊥\n',
@@ -307,6 +310,8 @@ SLIPS = [
     (check.check_edits, 'planning/plan_low: no log', LOG, None, None),
     (check.check_edits, 'planning/plan_low: its comment does not say', 'crates/planning/must-fail/plan_low.edit', 'must break', 'breaks'),
     (check.check_edits, 'planning/plan_low: its comment does not say', 'crates/planning/must-fail/plan_low.edit', '`plan`', 'the plan'),
+    (check.check_edits, 'planning/plan_low: its comment does not say', 'crates/planning/must-fail/plan_low.edit', '`plan` must', '`print_plan` or `plan` must'),
+    (check.check_edits, 'planning/plan_low: print_plan does not break', 'crates/planning/must-fail/plan_low.edit', '`plan` must', '`print_plan` and law `plan` must'),
     (check.check_edits, 'planning/plan_low: it changes a proof', 'crates/planning/must-fail/plan_low.edit', 'file: src/lib.rt', 'file: proofs/Plan.antt'),
     (check.check_edits, 'planning/plan_low: print_plan does not break', 'crates/planning/must-fail/plan_low.edit', '`plan`', '`print_plan`'),
     (check.check_edits, 'planning/plan_low: plan does not break', LOG, 'proofs/plan/', 'proofs/print_plan/'),
@@ -344,6 +349,13 @@ SLIPS = [
     (check.check_table, 'the rows of table are', 'crates/examples/specs/Table.antt', 'table =\n', 'table = short\nlong =\n'),
     (check.check_example_a, 'README.md: fileA', 'README.md', 'part\tcard\t20', 'part\tcard\t21'),
     (check.check_example_a, 'README.md: listingA', 'crates/examples/specs/Files.antt', 'listingA = bytes', 'listing = bytes'),
+    (check.check_one_pass, 'scan: a loop stands 2 times', SCAN_CODE, '', 'while i < at {\n}\n'),
+    (check.check_one_pass, 'scan: a loop stands 0 times', SCAN_CODE, 'while', '// while'),
+    (check.check_one_pass, 'scan: a place where the file is read stands 2 times', SCAN_CODE, 'i += 1;', 'i += 1;\n    let c = s[at];'),
+    (check.check_one_pass, 'scan: a place where the file is read stands 2 times', SCAN_CODE, '', 'let t = fields::tabs_of(s, at);\n'),
+    (check.check_one_pass, 'scan: the place in the line moves by `i = at - 1;`', SCAN_CODE, 'i += 1;', 'i = at - 1;'),
+    (check.check_one_pass, 'scan: the place in the line moves by `i -= 1;`', SCAN_CODE, 'i += 1;', 'i -= 1;'),
+    (check.check_one_pass, 'records: a call of scan::line_at stands 2 times', CURSOR, '', 'let m = scan::line_at(s, at);\n'),
     (check.check_verdicts, 'planning: no verdict', 'target/log/planning.out', None, None),
     (check.check_verdicts, 'planning: no verdict', 'target/log/planning.out', 'logic=proved', 'logic=not-proved'),
     (check.check_verdicts, 'planning: the verdict names an assumption, axioms', 'target/log/planning.out', 'sum=0', 'axioms=1 sum=0'),

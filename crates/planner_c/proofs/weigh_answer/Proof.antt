@@ -13,7 +13,9 @@ place-requires c κs = search needs
 
 returns : tie.Need-returns
 unfolding weighExported
-returns c = λ i. record { number = c .before .number .ensures i; place = c .place .ensures i; bounds = c .before .before .before .before .args .a .bounds; load = c .before .before .before .before .args .a .load; row = c .before .before .before .before .args .a .row }
+returns c =
+    let a = c .before .before .before .before .args .a in
+    λ i. record { number = c .before .number .ensures i; place = c .place .ensures i; bounds = a .bounds; load = a .load; row = a .row }
 
 pub weigh-answer-spec : {M : Type 1} → statement M
 weigh-answer-spec = tie.close (tie.spec number-requires place-requires returns)
