@@ -1,7 +1,8 @@
 // The local test of one task, and its least budget. The tasks are lent by columns (crate task_set).
 use least::Least;
 ghost use mathlib.Core.Path.{_≡_};
-ghost use Prim.Native.Nat.{suc, _^_, _≤_, _<_};
+ghost use Prim.Native.Nat.{suc, _≤_, _<_};
+ghost use Rattle.refusal.specs.Limits.{numberLimit};
 ghost use Rattle.task_set.specs.Tasks.{higher};
 ghost use Rattle.task_set.specs.ByColumn.{timesOf, FineTimes};
 ghost use Rattle.budget.specs.Code.{dueTask, passingTime, NoneMet, budgetFrom};
@@ -19,7 +20,7 @@ fn passing_time(
     q: u64,
     start: u64,
 ) -> Least
-    requires { ⌜ FineTimes (now separations) (now costs) n × (i < n) × (deadline ≤ 2 ^ 20) × (period ≤ 2 ^ 20) × (b ≤ 2 ^ 20) × (1 ≤ q) × (q ≤ period) × (1 ≤ start) × NoneMet period q b (dueTask (now costs) i deadline) (higher (suc i) (timesOf (now separations) (now costs) n)) start ⌝ }
+    requires { ⌜ FineTimes (now separations) (now costs) n × (i < n) × (deadline ≤ numberLimit) × (period ≤ numberLimit) × (b ≤ numberLimit) × (1 ≤ q) × (q ≤ period) × (1 ≤ start) × NoneMet period q b (dueTask (now costs) i deadline) (higher (suc i) (timesOf (now separations) (now costs) n)) start ⌝ }
     ensures { λ x. ⌜ x ≡ passingTime period q b (dueTask (now (costs .entry)) i deadline) (higher (suc i) (timesOf (now (separations .entry)) (now (costs .entry)) n)) ⌝ }
 {
     let own = costs[i] + b;
@@ -49,7 +50,7 @@ pub fn least_budget(
     b: u64,
     q: u64,
 ) -> Least
-    requires { ⌜ FineTimes (now separations) (now costs) n × (i < n) × (deadline ≤ 2 ^ 20) × (period ≤ 2 ^ 20) × (b ≤ 2 ^ 20) × (1 ≤ q) × (q ≤ period) ⌝ }
+    requires { ⌜ FineTimes (now separations) (now costs) n × (i < n) × (deadline ≤ numberLimit) × (period ≤ numberLimit) × (b ≤ numberLimit) × (1 ≤ q) × (q ≤ period) ⌝ }
     ensures { λ x. ⌜ x ≡ budgetFrom period q b (dueTask (now (costs .entry)) i deadline) (higher (suc i) (timesOf (now (separations .entry)) (now (costs .entry)) n)) ⌝ }
 {
     if let Least::At(_) = passing_time(separations, costs, n, i, deadline, period, b, q, 1) {

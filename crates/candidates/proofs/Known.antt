@@ -2,7 +2,7 @@
 --   shownAt ts x l   == the ceiling shown for lock l at x, with its holding time
 --   Known ts y l c w == c is shown for lock l at y, held for w; or nothing is known of it yet, and c is its lowest ceiling
 -- Assumes nothing.
-use Prim.Native.Nat.{ℕ, suc, _+_, _-_, _^_, _≤_, _<_}
+use Prim.Native.Nat.{ℕ, suc, _+_, _-_, _≤_, _<_}
 use native.Mathlib.Omega.{arith}
 use native.Mathlib.Decide.{decLe}
 use mathlib.Core.Path.{_≡_, refl, sym, ap, ap₂, _∙_, fun-ext}
@@ -16,6 +16,7 @@ use Rattle.least.specs.declared.Least.{Least}
 use Rattle.least.specs.declared.Least.the-variants.{At, Nothing}
 use Rattle.least.specs.Search.{leastFrom, leastUpTo, numberOr0}
 use Rattle.least.proofs.Search.{NoneIn, none-next, least-at, least-found, least-skip}
+use Rattle.refusal.specs.Limits.{numberLimit}
 use Rattle.task_set.specs.declared.Task.{Task}
 use Rattle.task_set.specs.Tasks.{demandIn, lowestCeiling, greatestHeld, smallestDeadline}
 use Rattle.holding.specs.declared.Ceiling.{Ceiling}
@@ -30,7 +31,7 @@ abbrev pub shownAt : List Task → ℕ → ℕ → Ceiling
 shownAt ts x l = lowestHeld ts (greatestHeld l ts) (smallestDeadline l ts) x (lowestCeiling l ts)
 
 abbrev pub Known : List Task → ℕ → ℕ → ℕ → ℕ → Type 0
-Known ts y l c w = ((2 ^ 20 < w) × (c ≡ lowestCeiling l ts)) ⊎ (shownAt ts y l ≡ Held c w)
+Known ts y l c w = ((numberLimit < w) × (c ≡ lowestCeiling l ts)) ⊎ (shownAt ts y l ≡ Held c w)
 
 -- tasks that ask for the same have the same holding times
 module _ (ts us : List Task) (same : (r w : ℕ) → demandIn (drop r ts) w ≡ demandIn (drop r us) w) (count : length ts ≡ length us) where
@@ -50,7 +51,7 @@ module _ (ts us : List Task) (same : (r w : ℕ) → demandIn (drop r ts) w ≡ 
 
   pub next-same : (g limit c w x : ℕ) → nextCeiling ts g limit c w x ≡ nextCeiling us g limit c w x
   unfolding nextCeiling
-  next-same g limit c w x = ap (λ (a : Ceiling). cond (leb w x) (Held c w) a) (lowest-held-same g limit x (cond (leb w (2 ^ 20)) (c + 1) c))
+  next-same g limit c w x = ap (λ (a : Ceiling). cond (leb w x) (Held c w) a) (lowest-held-same g limit x (cond (leb w numberLimit) (c + 1) c))
 
 -- a search up to the smallest deadline is the one behind the lock's holding time
 hold-is : (ts : List Task) (l r : ℕ) → holdUpTo ts (greatestHeld l ts) r (smallestDeadline l ts) ≡ holdingOf ts l r
@@ -125,9 +126,9 @@ module _ (ts : List Task) (x y l c w : ℕ) (h : x ≤ y) (s : Shows ts y l c w)
       ∙ ap (leastFrom (test x) (c + 1)) rest)
 
 -- the next ceiling is the one shown at x
-pub next-shown : (ts : List Task) (x y l c w : ℕ) → x ≤ y → x ≤ 2 ^ 20 → smallestDeadline l ts ≤ 2 ^ 20 → Known ts y l c w → nextCeiling ts (greatestHeld l ts) (smallestDeadline l ts) c w x ≡ shownAt ts x l
+pub next-shown : (ts : List Task) (x y l c w : ℕ) → x ≤ y → x ≤ numberLimit → smallestDeadline l ts ≤ numberLimit → Known ts y l c w → nextCeiling ts (greatestHeld l ts) (smallestDeadline l ts) c w x ≡ shownAt ts x l
 unfolding nextCeiling
-next-shown ts x y l c w h b d (inl (u, e)) = rw e (simp (lt-leb w x (omega arith), lt-leb w (2 ^ 20) u))
+next-shown ts x y l c w h b d (inl (u, e)) = rw e (simp (lt-leb w x (omega arith), lt-leb w numberLimit u))
 next-shown ts x y l c w h b d (inr e) = go (decLe w x)
   where
     s : Shows ts y l c w
@@ -137,4 +138,4 @@ next-shown ts x y l c w h b d (inr e) = go (decLe w x)
     go (yes m) = simp (le-leb w x m) (sym (shows-shown ts x l c w (still-shown ts x y l c w h s m)))
     go (no m) =
         let most = holding-paper ts l c w .0 (s .time) .1 in
-        simp (lt-leb w x (omega arith), le-leb w (2 ^ 20) (omega arith)) (sym (shown-later ts x y l c w h s (omega arith)))
+        simp (lt-leb w x (omega arith), le-leb w numberLimit (omega arith)) (sym (shown-later ts x y l c w h s (omega arith)))

@@ -2,7 +2,7 @@
 --   testAt p c k b Q == the task at the place k of the part p, by its columns c, passes with the budget Q where its blocking is b
 --   Tested p c blocked q == with q every task passes with its blocking of the array, where this is known
 -- Assumes nothing.
-use Prim.Native.Nat.{ℕ, suc, _^_, _≤_, _<_}
+use Prim.Native.Nat.{ℕ, suc, _≤_, _<_}
 use native.Mathlib.Omega.{arith}
 use mathlib.Core.Path.{_≡_, refl, sym, ap, _∙_}
 use mathlib.Core.Bool.{Bool, true, false}
@@ -13,6 +13,7 @@ use lib.Seq.{drop-cons}
 use Rattle.least.specs.declared.Least.{Least}
 use Rattle.least.specs.declared.Least.the-variants.{At, Nothing}
 use Rattle.least.proofs.Search.{NoneIn, none-iff, first-of}
+use Rattle.refusal.specs.Limits.{numberLimit}
 use Rattle.task_set.specs.declared.Task.{Task}
 use Rattle.task_set.specs.declared.Part.{Part}
 use Rattle.task_set.specs.declared.Columns.{Columns}
@@ -34,7 +35,7 @@ abbrev pub testAt : Part → Columns → ℕ → ℕ → ℕ → Bool
 testAt p c k b Q = taskPasses (p .period) Q b (dueTask (c .costs) k (getD (c .deadlines) k 0)) (drop (suc k) (timesOf (c .separations) (c .costs) (p .count)))
 
 abbrev pub Tested : Part → Columns → List ℕ → ℕ → Type 0
-Tested p c blocked q = (k : ℕ) → k < p .count → (2 ^ 20 < getD blocked k 0) ⊎ (testAt p c k (getD blocked k 0) q ≡ true)
+Tested p c blocked q = (k : ℕ) → k < p .count → (numberLimit < getD blocked k 0) ⊎ (testAt p c k (getD blocked k 0) q ≡ true)
 
 module _ (p : Part) (fine : FinePart p) (c : Columns) (are : ColumnsAre p c) (table : List ℕ) (below : LongestBelow p table) (ceilings : List ℕ) where
   abbrev blocking : ℕ → ℕ
@@ -70,7 +71,7 @@ module _ (p : Part) (fine : FinePart p) (c : Columns) (are : ColumnsAre p c) (ta
     -- a task whose blocking was tested passes with q
     passed : (k : ℕ) → k < p .count → blocking k ≡ getD tested k 0 → testAt p c k (blocking k) q ≡ true
     passed k h e =
-        ⊎-elim (λ (l : 2 ^ 20 < getD tested k 0). absurd (omega (arith, blocking-small p fine k h table ceilings below)))
+        ⊎-elim (λ (l : numberLimit < getD tested k 0). absurd (omega (arith, blocking-small p fine k h table ceilings below)))
         (λ (t : testAt p c k (getD tested k 0) q ≡ true). ap (λ (b : ℕ). testAt p c k b q) e ∙ t)
         (known k h)
 

@@ -2,12 +2,14 @@
 --   Prepared p c k table == the arrays are those of the part p: the columns of its tasks and of its locks, and the table of the longest uses
 --   Searching            == the search has come to x, and the pairs are those that the walk keeps above x
 -- Assumes nothing.
-use Prim.Native.Nat.{ℕ, _+_, _-_, _^_, _≤_, _<_}
+use Prim.Native.Nat.{ℕ, _+_, _-_, _≤_, _<_}
 use native.Mathlib.Omega.{arith}
 use mathlib.Core.Path.{_≡_, sym, ap, _∙_, subst}
 use mathlib.Core.Bool.{true, false}
 use mathlib.Core.List.{List, [], _∷_}
 use lib.ListN.{length, getD, set, replicate, length-set, length-append, length-replicate}
+use Rattle.refusal.specs.Limits.{numberLimit}
+use Rattle.demand.specs.Demand.{costLimit}
 use Rattle.task_set.specs.declared.Part.{Part}
 use Rattle.task_set.specs.declared.Columns.{Columns}
 use Rattle.task_set.specs.declared.Locks.{Locks}
@@ -29,7 +31,7 @@ use Rattle.candidates.proofs.Turn.{SearchAt, search-start, walked-start
 pub record Prepared (p : Part) (c : Columns) (k : Locks) (table : List ℕ) : Type 0 where
   pub fine : FinePart p
   pub period-some : 1 ≤ p .period
-  pub period-most : p .period ≤ 2 ^ 20
+  pub period-most : p .period ≤ numberLimit
   pub columns : ColumnsAre p c
   pub locks : LocksAre p k
   pub below : LongestBelow p table
@@ -54,16 +56,16 @@ module _ (p : Part) (c : Columns) (k : Locks) (table : List ℕ) (ready : Prepar
     ceilings-most = most;
   }
 
-  pub deadlines-fine : (i : ℕ) → i < p .count → getD (c .deadlines) i 0 ≤ 2 ^ 20
+  pub deadlines-fine : (i : ℕ) → i < p .count → getD (c .deadlines) i 0 ≤ numberLimit
   deadlines-fine i h = let f = ready .fine .each i h in omega (arith, ready .columns .deadlines i (omega (arith, ready .fine .few)))
 
-  pub blockings-fine : (ceilings : List ℕ) (i : ℕ) → i < p .count → blockingBy table ceilings (p .locks) i ≤ 2 ^ 20
+  pub blockings-fine : (ceilings : List ℕ) (i : ℕ) → i < p .count → blockingBy table ceilings (p .locks) i ≤ numberLimit
   blockings-fine ceilings i h = blocking-small p (ready .fine) i h table ceilings (ready .below)
 
-  pub searching-start : (x : ℕ) → 2 ^ 20 < x → Searching p c (k .lowest) (replicate 8 x) (replicate 16 x) 1 (replicate 121 0) (replicate 121 0) 0 (2 ^ 20)
+  pub searching-start : (x : ℕ) → numberLimit < x → Searching p c (k .lowest) (replicate 8 x) (replicate 16 x) 1 (replicate 121 0) (replicate 121 0) 0 numberLimit
   searching-start x h = record {
     search = search-start p (ready .fine) c k (ready .locks) (ready .period-some) x h;
-    walked = subst (Walked (p .period) (tasksOf p) (p .locks) (2 ^ 20)) (sym (pairs-none (replicate 121 0) (replicate 121 0))) (walked-start p (ready .fine));
+    walked = subst (Walked (p .period) (tasksOf p) (p .locks) numberLimit) (sym (pairs-none (replicate 121 0) (replicate 121 0))) (walked-start p (ready .fine));
     room = length-replicate {A = ℕ} 121 0;
     rooms = length-replicate {A = ℕ} 121 0;
     ceilings-most = λ j l. omega (arith, ready .locks .lowest j l, lowest-most p (ready .fine) _ (omega arith) l, ready .fine .few);
@@ -73,7 +75,7 @@ module _ (p : Part) (c : Columns) (k : Locks) (table : List ℕ) (ready : Prepar
     pub pairs-few : count ≤ 121
     pairs-few = omega (arith, pairs-length budgets holdings count, walked-few p (ready .fine) _ (pairsOf budgets holdings count) (s .walked))
 
-    pub sums-small : (i : ℕ) → i < count → sumAt budgets holdings i ≤ 2 ^ 21
+    pub sums-small : (i : ℕ) → i < count → sumAt budgets holdings i ≤ costLimit
     sums-small i h = let d = candidate-small p (ready .fine) _ (s .walked .candidates _ (pairs-each budgets holdings count i h)) in omega (arith, d .0, d .1, ready .period-most)
 
     -- the list is complete
@@ -92,7 +94,7 @@ module _ (p : Part) (c : Columns) (k : Locks) (table : List ℕ) (ready : Prepar
           pub holding-falls : r .holding ≤ x
           holding-falls = holding-most p (ready .fine) c (ready .columns) k (ready .locks) x ceilings times blocked budget (s .search) r is yes
 
-          pub sum-small : b .budget + r .holding ≤ 2 ^ 21
+          pub sum-small : b .budget + r .holding ≤ costLimit
           sum-small =
               omega (arith, holding-falls, s .search .small, ready .period-most, budget-most p (ready .fine) c (ready .columns) k (ready .locks) x ceilings times blocked budget (s .search) r is yes table (ready .below) b has ok)
 

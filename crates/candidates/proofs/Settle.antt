@@ -2,7 +2,7 @@
 --   AllShown ts m x ceilings times == each lock has the ceiling that is shown for it at x, and its holding time
 --   AllKnown ts m y ceilings times == that of a greater x, or nothing is known yet
 -- Assumes nothing.
-use Prim.Native.Nat.{ℕ, zero, suc, _-_, _^_, _≤_, _<_}
+use Prim.Native.Nat.{ℕ, zero, suc, _-_, _≤_, _<_}
 use native.Mathlib.Omega.{arith}
 use mathlib.Core.Path.{_≡_, sym, ap, ap₂, _∙_}
 use mathlib.Core.List.{List, map, map-map}
@@ -12,6 +12,7 @@ use Rattle.least.specs.Search.{numberOr0}
 use Rattle.least.specs.Lists.{greatest, countFrom, range}
 use Rattle.least.proofs.Lists.{map-same, count-from}
 use Rattle.least.proofs.Count.{count-suc}
+use Rattle.refusal.specs.Limits.{numberLimit}
 use Rattle.task_set.specs.declared.Task.{Task}
 use Rattle.task_set.specs.declared.Part.{Part}
 use Rattle.task_set.specs.declared.Columns.{Columns}
@@ -41,7 +42,7 @@ AllKnown ts m y ceilings times = (j : ℕ) → j < m → Known ts y (suc j) (get
 
 -- what the code asks for is the ceiling shown at x
 module _ (p : Part) (fine : FinePart p) (c : Columns) (are : ColumnsAre p c) (k : Locks) (locks : LocksAre p k) where
-  pub next-at : (x y : ℕ) (ceilings times : List ℕ) → x ≤ y → x ≤ 2 ^ 20 → AllKnown (tasksOf p) (p .locks) y ceilings times
+  pub next-at : (x y : ℕ) (ceilings times : List ℕ) → x ≤ y → x ≤ numberLimit → AllKnown (tasksOf p) (p .locks) y ceilings times
       → (j : ℕ) → j < p .locks → ceilingAt (timesOf (c .separations) (c .costs) (p .count)) (k .longest) (k .deadlines) ceilings times x j ≡ shownAt (tasksOf p) x (suc j)
   next-at x y ceilings times h b known j l =
       ap₂ (λ (g limit : ℕ). nextCeiling (timesOf (c .separations) (c .costs) (p .count)) g limit (getD ceilings j 0) (getD times j 0) x) (locks .longest j l) (locks .deadlines j l)

@@ -1,7 +1,7 @@
 -- One turn of the search for the kept list: at x, the ceilings shown for x, their X and their least budget; then on from X − 1.
 --   SearchAt p c x ceilings times blocked budget == what the arrays say when the search has come to x
 -- Assumes nothing.
-use Prim.Native.Nat.{ℕ, zero, suc, _-_, _^_, _≤_, _<_}
+use Prim.Native.Nat.{ℕ, zero, suc, _-_, _≤_, _<_}
 use native.Mathlib.Nat.{le-trans}
 use native.Mathlib.Omega.{arith}
 use mathlib.Core.Path.{_≡_, refl, sym, ap, _∙_}
@@ -13,6 +13,7 @@ use Rattle.least.specs.declared.Least.the-variants.{At}
 use Rattle.least.specs.Lists.{greatest, countFrom}
 use Rattle.least.proofs.Search.{NoneIn, least-found}
 use Rattle.least.proofs.Lists.{map-same, count-from}
+use Rattle.refusal.specs.Limits.{numberLimit}
 use Rattle.task_set.specs.declared.Task.{Task}
 use Rattle.task_set.specs.declared.Part.{Part}
 use Rattle.task_set.specs.declared.Columns.{Columns}
@@ -44,7 +45,7 @@ use Rattle.candidates.proofs.Lowest.{Tested, lowest-range, lowest-teste
 pub record SearchAt (p : Part) (c : Columns) (x : ℕ) (ceilings times blocked : List ℕ) (budget : ℕ) : Type 0 where
   pub last : ℕ
   pub later : x ≤ last
-  pub small : x ≤ 2 ^ 20
+  pub small : x ≤ numberLimit
   pub known : AllKnown (tasksOf p) (p .locks) last ceilings times
   pub tested : Tested p c blocked budget
   pub from : 1 ≤ budget
@@ -56,15 +57,15 @@ getD-replicate zero k x h = absurd (omega arith)
 getD-replicate (suc n) zero x h = refl
 getD-replicate (suc n) (suc k) x h = getD-replicate n k x (omega arith)
 
--- no holding time of a part is greater than 2 ^ 20
+-- no holding time of a part is greater than numberLimit
 module _ (p : Part) (fine : FinePart p) where
-  pub holding-small : (σ : Setting) → Permitted (tasksOf p) (p .locks) σ → holdingTimeOf (tasksOf p) (p .locks) σ ≤ 2 ^ 20
-  holding-small = deadlines-holding (tasksOf p) (p .locks) (2 ^ 20) (λ t m. let h = tasks-place p fine m in let f = fine .each (h .0) (h .1) in omega (arith, ap (λ (x : Task). x .deadline) (h .2)))
+  pub holding-small : (σ : Setting) → Permitted (tasksOf p) (p .locks) σ → holdingTimeOf (tasksOf p) (p .locks) σ ≤ numberLimit
+  holding-small = deadlines-holding (tasksOf p) (p .locks) numberLimit (λ t m. let h = tasks-place p fine m in let f = fine .each (h .0) (h .1) in omega (arith, ap (λ (x : Task). x .deadline) (h .2)))
 
-  pub walked-start : Walked (p .period) (tasksOf p) (p .locks) (2 ^ 20) []
-  walked-start = walk-start (p .period) (tasksOf p) (p .locks) (2 ^ 20) holding-small
+  pub walked-start : Walked (p .period) (tasksOf p) (p .locks) numberLimit []
+  walked-start = walk-start (p .period) (tasksOf p) (p .locks) numberLimit holding-small
 
-  pub candidate-small : (d : Pair) → Candidate (p .period) (tasksOf p) (p .locks) d → (d .budget ≤ p .period) × (d .holding ≤ 2 ^ 20)
+  pub candidate-small : (d : Pair) → Candidate (p .period) (tasksOf p) (p .locks) d → (d .budget ≤ p .period) × (d .holding ≤ numberLimit)
   candidate-small d q =
       (budget-iff (p .period) (tasksOf p) (p .locks) (q .setting) (d .budget) .0 (q .budget) .1, omega (arith, q .holding, holding-small (q .setting) (q .allowed)))
 
@@ -76,9 +77,9 @@ module _ (p : Part) (fine : FinePart p) where
       le-trans (walked-count (p .period) (tasksOf p) (p .locks) used e cs w) (count-121 (p .locks) (length (tasksOf p)) (fine .few-locks) (omega (arith, tasks-length p fine, fine .few)))
 
 module _ (p : Part) (fine : FinePart p) (c : Columns) (k : Locks) (locks : LocksAre p k) where
-  pub search-start : 1 ≤ p .period → (x : ℕ) → 2 ^ 20 < x → SearchAt p c (2 ^ 20) (k .lowest) (replicate 8 x) (replicate 16 x) 1
+  pub search-start : 1 ≤ p .period → (x : ℕ) → numberLimit < x → SearchAt p c numberLimit (k .lowest) (replicate 8 x) (replicate 16 x) 1
   search-start o x h = record {
-    last = 2 ^ 20;
+    last = numberLimit;
     later = omega arith;
     small = omega arith;
     known = λ j l. inl (omega (arith, getD-replicate 8 j x (omega (arith, fine .few-locks))), locks .lowest j l);

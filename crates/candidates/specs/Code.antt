@@ -8,7 +8,7 @@
 --   pairsOf budgets holdings n == the first n pairs of two arrays
 --   LighterIs budgets holdings n s r == the first r of n pairs are left once those at the end with a sum of at least s are dropped
 -- Assumes nothing.
-use Prim.Native.Nat.{ℕ, zero, suc, _+_, _^_, _≤_, _<_}
+use Prim.Native.Nat.{ℕ, zero, suc, _+_, _≤_, _<_}
 use mathlib.Core.Path.{_≡_}
 use mathlib.Core.Bool.{true, false, cond}
 use mathlib.Core.List.{List, map}
@@ -17,6 +17,7 @@ use lib.ListN.{getD, drop}
 use Rattle.least.specs.declared.Least.{Least}
 use Rattle.least.specs.declared.Least.the-variants.{At, Nothing}
 use Rattle.least.specs.Lists.{greatest, countFrom}
+use Rattle.refusal.specs.Limits.{numberLimit}
 use Rattle.task_set.specs.declared.Task.{Task}
 use Rattle.holding.specs.declared.Ceiling.{Ceiling}
 use Rattle.holding.specs.declared.Ceiling.the-variants.{Held, NotHeld}
@@ -30,14 +31,14 @@ use Rattle.candidates.specs.Candidates.{pair}
 -- locks
 
 unfoldable pub nextCeiling : List Task → ℕ → ℕ → ℕ → ℕ → ℕ → Ceiling
-nextCeiling ts g limit c w x = cond (leb w x) (Held c w) (lowestHeld ts g limit x (cond (leb w (2 ^ 20)) (c + 1) c))
+nextCeiling ts g limit c w x = cond (leb w x) (Held c w) (lowestHeld ts g limit x (cond (leb w numberLimit) (c + 1) c))
 
 -- the greatest c and the smallest deadline of each lock, and a ceiling for it
 pub record FineLocks (longest limits ceilings : List ℕ) (m : ℕ) : Type 0 where
   pub few : m ≤ 8
   pub longest-some : (j : ℕ) → j < m → 1 ≤ getD longest j 0
-  pub longest-most : (j : ℕ) → j < m → getD longest j 0 ≤ 2 ^ 20
-  pub limits-most : (j : ℕ) → j < m → getD limits j 0 ≤ 2 ^ 20
+  pub longest-most : (j : ℕ) → j < m → getD longest j 0 ≤ numberLimit
+  pub limits-most : (j : ℕ) → j < m → getD limits j 0 ≤ numberLimit
   pub ceilings-most : (j : ℕ) → j < m → getD ceilings j 0 ≤ 16
 
 -- of the lock at the place j

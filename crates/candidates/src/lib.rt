@@ -1,10 +1,13 @@
 // The candidates of a part and its kept list.
 use holding::Ceiling;
 use least::Least;
+use refusal::NUMBER_LIMIT;
 use task_set::Part;
 ghost use mathlib.Core.Path.{_≡_};
-ghost use Prim.Native.Nat.{ℕ, suc, _^_, _≤_, _<_};
+ghost use Prim.Native.Nat.{ℕ, suc, _≤_, _<_};
 ghost use lib.ListN.{getD, drop};
+ghost use Rattle.refusal.specs.Limits.{numberLimit};
+ghost use Rattle.demand.specs.Demand.{costLimit};
 ghost use Rattle.task_set.specs.Tasks.{tasksOf};
 ghost use Rattle.task_set.specs.Fine.{FinePart};
 ghost use Rattle.task_set.specs.ByColumn.{timesOf, FineTimes};
@@ -27,10 +30,8 @@ pub struct Kept {
     pub count: usize,
 }
 
-// No time, deadline or blocking is greater. UNKNOWN stands where there is none yet.
-const MOST: u64 = 1048576;
-
-const UNKNOWN: u64 = 1048577;
+// No time and no blocking is as great: it stands where there is none yet.
+const UNKNOWN: u64 = NUMBER_LIMIT + 1;
 
 // The ceiling of a lock at x, with its holding time, from those at a greater x.
 fn next_ceiling(
@@ -43,13 +44,13 @@ fn next_ceiling(
     time: u64,
     x: u64,
 ) -> Ceiling
-    requires { ⌜ FineTimes (now separations) (now costs) n × (1 ≤ g) × (g ≤ 2 ^ 20) × (limit ≤ 2 ^ 20) × (ceiling ≤ 16) ⌝ }
+    requires { ⌜ FineTimes (now separations) (now costs) n × (1 ≤ g) × (g ≤ numberLimit) × (limit ≤ numberLimit) × (ceiling ≤ 16) ⌝ }
     ensures { λ r. ⌜ r ≡ nextCeiling (timesOf (now (separations .entry)) (now (costs .entry)) n) g limit ceiling time x ⌝ }
 {
     if time <= x {
         return Ceiling::Held(ceiling, time);
     }
-    if time <= MOST {
+    if time <= NUMBER_LIMIT {
         return holding::lowest_within(separations, costs, n, g, limit, ceiling + 1, x);
     }
     holding::lowest_within(separations, costs, n, g, limit, ceiling, x)
@@ -129,7 +130,7 @@ fn task_budget(
     tested: u64,
     q: u64,
 ) -> Least
-    requires { ⌜ FineTimes (now separations) (now costs) n × (i < n) × (deadline ≤ 2 ^ 20) × (period ≤ 2 ^ 20) × (b ≤ 2 ^ 20) × (1 ≤ q) × (q ≤ period) ⌝ }
+    requires { ⌜ FineTimes (now separations) (now costs) n × (i < n) × (deadline ≤ numberLimit) × (period ≤ numberLimit) × (b ≤ numberLimit) × (1 ≤ q) × (q ≤ period) ⌝ }
     ensures { λ r. ⌜ r ≡ budgetAgain period b tested (dueTask (now (costs .entry)) i deadline) (drop (suc i) (timesOf (now (separations .entry)) (now (costs .entry)) n)) q ⌝ }
 {
     if b == tested {
@@ -158,7 +159,7 @@ fn budget_under(
     tested: [u64; 16],
     q: u64,
 ) -> Budgeted
-    requires { ⌜ FineTimes (now separations) (now costs) n × ((k : ℕ) → k < n → getD (now deadlines) k 0 ≤ 2 ^ 20) × (period ≤ 2 ^ 20) × (m ≤ 8) × ((k : ℕ) → k < n → blockingBy (now below) (now ceilings) m k ≤ 2 ^ 20) × (1 ≤ q) × (q ≤ period) ⌝ }
+    requires { ⌜ FineTimes (now separations) (now costs) n × ((k : ℕ) → k < n → getD (now deadlines) k 0 ≤ numberLimit) × (period ≤ numberLimit) × (m ≤ 8) × ((k : ℕ) → k < n → blockingBy (now below) (now ceilings) m k ≤ numberLimit) × (1 ≤ q) × (q ≤ period) ⌝ }
     ensures { λ r. ⌜ BudgetIs (budgetStep (timesOf (now (separations .entry)) (now (costs .entry)) n) (now (costs .entry)) (now (deadlines .entry)) period (blockingBy (now (below .entry)) (now (ceilings .entry)) m) tested) (blockingBy (now (below .entry)) (now (ceilings .entry)) m) n q r ⌝ }
 {
     let mut blocked = tested;
@@ -201,7 +202,7 @@ fn budget_under(
 
 // How many pairs are left once those at the end with a sum Q + X of at least s are dropped.
 fn lighter_count(budgets: &[u64; 121], holdings: &[u64; 121], count: usize, s: u64) -> usize
-    requires { ⌜ (count ≤ 121) × ((k : ℕ) → k < count → sumAt (now budgets) (now holdings) k ≤ 2 ^ 21) ⌝ }
+    requires { ⌜ (count ≤ 121) × ((k : ℕ) → k < count → sumAt (now budgets) (now holdings) k ≤ costLimit) ⌝ }
     ensures { λ r. ⌜ LighterIs (now (budgets .entry)) (now (holdings .entry)) count s r ⌝ }
 {
     let mut left = count;
@@ -238,7 +239,7 @@ fn kept_list(budgets: &[u64; 121], holdings: &[u64; 121], count: usize) -> Kept
 // The kept list of a part. At x the lowest ceilings that are held for at most x need no greater budget than any other such setting; their X is the greatest
 // there is up to x, and the search goes on from X − 1.
 pub fn kept_of(part: Part) -> Kept
-    requires { ⌜ FinePart part × (1 ≤ part .period) × (part .period ≤ 2 ^ 20) ⌝ }
+    requires { ⌜ FinePart part × (1 ≤ part .period) × (part .period ≤ numberLimit) ⌝ }
     ensures { λ r. ⌜ r ≡ keptOf (part .period) (tasksOf part) (part .locks) ⌝ }
 {
     let columns = task_set::columns_of(part);
@@ -256,7 +257,7 @@ pub fn kept_of(part: Part) -> Kept
     let mut budgets = [0u64; 121];
     let mut holdings = [0u64; 121];
     let mut count = 0;
-    let mut x = MOST;
+    let mut x = NUMBER_LIMIT;
     loop {
         let raised = raise(
             &separations,

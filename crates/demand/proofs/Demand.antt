@@ -13,7 +13,8 @@ use Rattle.least.specs.Round.{ceilDiv}
 use Rattle.least.specs.Lists.{sum, countFrom}
 use Rattle.least.proofs.Round.{ceil-le, ceil-mono, product}
 use Rattle.least.proofs.Sums.{sum-mono}
-use Rattle.demand.specs.Demand.{demandFrom, FineDemand}
+use Rattle.refusal.specs.Limits.{numberLimit}
+use Rattle.demand.specs.Demand.{demandFrom, costLimit, demandLimit, FineDemand}
 
 module _ (periods costs : List ℕ) (n : ℕ) where
   pub demand-next : (k t : ℕ) → k < n → demandFrom periods costs n k t ≡ ceilDiv t (getD periods k 0) * getD costs k 0 + demandFrom periods costs n (suc k) t
@@ -24,20 +25,20 @@ module _ (periods costs : List ℕ) (n : ℕ) where
   unfolding demandFrom countFrom sum
   demand-none k t h = let e : n - k ≡ 0 = omega arith in rw e refl
 
-  module _ (fine : FineDemand periods costs n) (t : ℕ) (l : t ≤ 2 ^ 20) where
-    each-small : (k : ℕ) → k < n → ceilDiv t (getD periods k 0) * getD costs k 0 ≤ 2 ^ 20 * 2 ^ 22
-    each-small k h = product (2 ^ 20) (2 ^ 22) (le-trans (ceil-le t (getD periods k 0) (fine .fine .some k h)) l) (fine .most k h)
+  module _ (fine : FineDemand periods costs n) (t : ℕ) (l : t ≤ numberLimit) where
+    each-most : (k : ℕ) → k < n → ceilDiv t (getD periods k 0) * getD costs k 0 ≤ numberLimit * costLimit
+    each-most k h = product numberLimit costLimit (le-trans (ceil-le t (getD periods k 0) (fine .fine .some k h)) l) (fine .most k h)
 
-    few-small : (d k : ℕ) → n ≤ k + d → demandFrom periods costs n k t ≤ 2 ^ 42 * d
-    few-small zero k h = omega (arith, demand-none k t (omega arith))
-    few-small (suc d) k h = go (decLt k n) (few-small d (suc k) (omega arith))
+    few-most : (d k : ℕ) → n ≤ k + d → demandFrom periods costs n k t ≤ d * (numberLimit * costLimit)
+    few-most zero k h = omega (arith, demand-none k t (omega arith))
+    few-most (suc d) k h = go (decLt k n) (few-most d (suc k) (omega arith))
       where
-        go : Dec (k < n) → demandFrom periods costs n (suc k) t ≤ 2 ^ 42 * d → demandFrom periods costs n k t ≤ 2 ^ 42 * suc d
-        go (yes q) ih = omega (arith, demand-next k t q, each-small k q)
+        go : Dec (k < n) → demandFrom periods costs n (suc k) t ≤ d * (numberLimit * costLimit) → demandFrom periods costs n k t ≤ suc d * (numberLimit * costLimit)
+        go (yes q) ih = omega (arith, demand-next k t q, each-most k q)
         go (no q) ih = omega (arith, demand-none k t (omega arith))
 
-    pub demand-small : (k : ℕ) → demandFrom periods costs n k t ≤ 2 ^ 46
-    demand-small k = omega (arith, few-small 16 k (omega (arith, fine .fine .few)))
+    pub demand-most : (k : ℕ) → demandFrom periods costs n k t ≤ demandLimit
+    demand-most k = omega (arith, few-most 16 k (omega (arith, fine .fine .few)))
 
   -- if each comes as often in e ticks as in t, they ask for the same
   module _ (s t e : ℕ) (same : (k : ℕ) → s ≤ k → k < n → ceilDiv e (getD periods k 0) ≡ ceilDiv t (getD periods k 0)) where

@@ -1,12 +1,13 @@
 // What tasks, or rows, that come again and again ask for. They are lent by columns: the periods in one array, the costs in another.
 ghost use mathlib.Core.Path.{_≡_};
-ghost use Prim.Native.Nat.{_^_, _≤_};
+ghost use Prim.Native.Nat.{_≤_};
 ghost use Rattle.least.specs.Round.{ceilDiv};
+ghost use Rattle.refusal.specs.Limits.{numberLimit};
 ghost use Rattle.demand.specs.Demand.{FineDemand, DemandIs};
 
 // How often a task with this period comes in t ticks. Often it is once, and nothing is divided.
 pub fn releases(t: u64, period: u64) -> u64
-    requires { ⌜ (1 ≤ t) × (t ≤ 2 ^ 20) × (1 ≤ period) × (period ≤ 2 ^ 20) ⌝ }
+    requires { ⌜ (1 ≤ t) × (t ≤ numberLimit) × (1 ≤ period) × (period ≤ numberLimit) ⌝ }
     ensures { λ r. ⌜ r ≡ ceilDiv t period ⌝ }
 {
     if t <= period {
@@ -17,7 +18,7 @@ pub fn releases(t: u64, period: u64) -> u64
 
 // What the tasks from the place s on, of n, ask for in t ticks.
 pub fn demand_from(periods: &[u64; 16], costs: &[u64; 16], n: usize, s: usize, t: u64) -> u64
-    requires { ⌜ FineDemand (now periods) (now costs) n × (1 ≤ t) × (t ≤ 2 ^ 20) ⌝ }
+    requires { ⌜ FineDemand (now periods) (now costs) n × (1 ≤ t) × (t ≤ numberLimit) ⌝ }
     ensures { λ x. ⌜ DemandIs (now (periods .entry)) (now (costs .entry)) n s t x ⌝ }
 {
     let mut sum: u64 = 0;

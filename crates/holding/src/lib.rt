@@ -1,7 +1,8 @@
 // Holding times of locks and of settings. The tasks are lent by columns (crate task_set).
 use least::Least;
 ghost use mathlib.Core.Path.{_≡_};
-ghost use Prim.Native.Nat.{_^_, _≤_};
+ghost use Prim.Native.Nat.{_≤_};
+ghost use Rattle.refusal.specs.Limits.{numberLimit};
 ghost use Rattle.task_set.specs.ByColumn.{timesOf, FineTimes};
 ghost use Rattle.holding.specs.Code.{holdUpTo, lowestHeld};
 
@@ -14,7 +15,7 @@ pub fn hold(
     r: usize,
     limit: u64,
 ) -> Least
-    requires { ⌜ FineTimes (now separations) (now costs) n × (1 ≤ g) × (g ≤ 2 ^ 20) × (limit ≤ 2 ^ 20) ⌝ }
+    requires { ⌜ FineTimes (now separations) (now costs) n × (1 ≤ g) × (g ≤ numberLimit) × (limit ≤ numberLimit) ⌝ }
     ensures { λ x. ⌜ x ≡ holdUpTo (timesOf (now (separations .entry)) (now (costs .entry)) n) g r limit ⌝ }
 {
     let mut w = g;
@@ -49,7 +50,7 @@ pub fn lowest_within(
     r: usize,
     x: u64,
 ) -> Ceiling
-    requires { ⌜ FineTimes (now separations) (now costs) n × (1 ≤ g) × (g ≤ 2 ^ 20) × (limit ≤ 2 ^ 20) ⌝ }
+    requires { ⌜ FineTimes (now separations) (now costs) n × (1 ≤ g) × (g ≤ numberLimit) × (limit ≤ numberLimit) ⌝ }
     ensures { λ c. ⌜ c ≡ lowestHeld (timesOf (now (separations .entry)) (now (costs .entry)) n) g limit x r ⌝ }
 {
     let most = least::smaller(limit, x);

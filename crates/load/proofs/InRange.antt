@@ -67,6 +67,7 @@ module _ (rows : Rows) (fine : FineRows rows) (c : RowColumns) (are : ColumnsAre
     };
     some = λ k h. let f = fine .each k h in omega (arith, are .sums k h, f);
     holds = λ k h. omega (arith, are .sums k h, are .holdings k h);
+    holdings-most = λ k h. rw (are .holdings k h) (fine .each k h .holding-most);
   }
 
   same-row : (k : ℕ) → k < rows .count → rowAt (c .periods) (c .sums) (c .holdings) k ≡ getD (rows .rows) k noRow

@@ -1,17 +1,17 @@
 -- What the functions behind `weigh` take and give.
---   FineRows rows     == at most sixteen rows, each with 1 ≤ P ≤ 2^20, 1 ≤ Q ≤ 2^20 and X ≤ 2^20
+--   FineRows rows     == at most sixteen rows, each with P and Q from 1 to the limit of numbers, and X up to it
 --   ColumnsAre rows c == c holds the numbers of the rows, place by place
 --   InRange rows      == rows that pass question 12
---   FineBounds bounds n == the first n are fractions of numbers below 2^32
+--   FineBounds bounds n == the first n are fractions of numbers within the limit
 -- Assumes nothing.
-use Prim.Native.Nat.{ℕ, _+_, _^_, _≤_, _<_}
+use Prim.Native.Nat.{ℕ, _+_, _≤_, _<_}
 use mathlib.Core.Path.{_≡_}
 use mathlib.Core.Bool.{true}
 use mathlib.Core.List.{List}
 use lib.ListN.{length, getD}
 use Rattle.least.specs.declared.Frac.{Frac}
 use Rattle.least.specs.Fraction.{frac}
-use Rattle.refusal.specs.Limits.{rowLimit}
+use Rattle.refusal.specs.Limits.{numberLimit, rowLimit}
 use Rattle.load.specs.declared.Row.{Row}
 use Rattle.load.specs.declared.Rows.{Rows}
 use Rattle.load.specs.declared.RowColumns.{RowColumns}
@@ -27,10 +27,10 @@ noFrac = frac 0 0
 
 pub record FineRow (r : Row) : Type 0 where
   pub period-some : 1 ≤ r .period
-  pub period-most : r .period ≤ 2 ^ 20
+  pub period-most : r .period ≤ numberLimit
   pub budget-some : 1 ≤ r .budget
-  pub budget-most : r .budget ≤ 2 ^ 20
-  pub holding-most : r .holding ≤ 2 ^ 20
+  pub budget-most : r .budget ≤ numberLimit
+  pub holding-most : r .holding ≤ numberLimit
 
 pub record FineRows (rows : Rows) : Type 0 where
   pub few : rows .count ≤ rowLimit
@@ -50,8 +50,8 @@ pub record InRange (rows : Rows) : Type 0 where
 
 pub record FineBound (b : Frac) : Type 0 where
   pub some : 1 ≤ b .num + b .den
-  pub num-most : b .num < 2 ^ 32
-  pub den-most : b .den < 2 ^ 32
+  pub num-most : b .num ≤ numberLimit
+  pub den-most : b .den ≤ numberLimit
 
 pub record FineBounds (bounds : List Frac) (n : ℕ) : Type 0 where
   pub room : n ≤ length bounds

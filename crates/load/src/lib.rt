@@ -6,16 +6,17 @@ use refusal::Refusal;
 ghost use mathlib.Core.Path.{_≡_};
 ghost use mathlib.Core.Bool.{not};
 ghost use mathlib.Core.List.{[]};
-ghost use Prim.Native.Nat.{_+_, _*_, _/_, _^_, min, _≤_, _<_};
+ghost use Prim.Native.Nat.{_+_, _*_, _/_, min, _≤_, _<_};
 ghost use lib.ListN.{length, drop, take};
 ghost use Rattle.least.specs.Round.{ceilDiv};
 ghost use Rattle.least.specs.Lists.{firstOf, pad};
 ghost use Rattle.least.specs.Fraction.{atMost, greatestOf};
+ghost use Rattle.refusal.specs.Limits.{numberLimit};
 ghost use Rattle.demand.specs.Demand.{FinePeriods, FineDemand};
 ghost use Rattle.refusal.specs.declared.Outcome.the-variants.{Refused};
 ghost use Rattle.load.specs.Load.{row, rowSum, ratio, boundOf, boundsOf};
 ghost use Rattle.load.specs.Weigh.{rowInRange, hasTime, weighed, weighOf, rowsOf, weighRows};
-ghost use Rattle.load.specs.ByColumn.{rowsCosting, rowsBy, FineColumns, SameUntil};
+ghost use Rattle.load.specs.ByColumn.{rowsCosting, rowsBy, ownLimit, FineColumns, SameUntil};
 ghost use Rattle.load.specs.Code.{noFrac, FineRows, ColumnsAre, InRange, FineBounds};
 
 // A row: a period P, a budget Q and a holding time X.
@@ -43,7 +44,7 @@ pub struct Weighed {
 
 // The time at which a row with this period comes for the first time after t ticks or more.
 fn next_time(t: u64, period: u64) -> u64
-    requires { ⌜ (1 ≤ t) × (t ≤ 2 ^ 20) × (1 ≤ period) × (period ≤ 2 ^ 20) ⌝ }
+    requires { ⌜ (1 ≤ t) × (t ≤ numberLimit) × (1 ≤ period) × (period ≤ numberLimit) ⌝ }
     ensures { λ r. ⌜ r ≡ ceilDiv t period * period ⌝ }
 {
     demand::releases(t, period) * period
@@ -51,7 +52,7 @@ fn next_time(t: u64, period: u64) -> u64
 
 // The end of the stretch of times, up to `most`, in which the rows from the place s on ask for the same as in t ticks.
 fn same_until(periods: &[u64; 16], n: usize, s: usize, t: u64, most: u64) -> u64
-    requires { ⌜ FinePeriods (now periods) n × (1 ≤ t) × (t ≤ most) × (most ≤ 2 ^ 20) ⌝ }
+    requires { ⌜ FinePeriods (now periods) n × (1 ≤ t) × (t ≤ most) × (most ≤ numberLimit) ⌝ }
     ensures { λ e. ⌜ SameUntil (now (periods .entry)) n s t most e ⌝ }
 {
     let mut end = most;
@@ -65,7 +66,7 @@ fn same_until(periods: &[u64; 16], n: usize, s: usize, t: u64, most: u64) -> u64
 
 // The time, up to the period, until which a load of l is no smaller in proportion than num/den, a ratio of at most (period + 1)/period.
 fn no_smaller_until(l: u64, num: u64, den: u64, period: u64) -> u64
-    requires { ⌜ (1 ≤ num) × (den ≤ 2 ^ 20) × (period ≤ 2 ^ 20) × (num * period ≤ den * period + den) ⌝ }
+    requires { ⌜ (1 ≤ num) × (den ≤ numberLimit) × (period ≤ numberLimit) × (num * period ≤ den * period + den) ⌝ }
     ensures { λ r. ⌜ r ≡ min period (l * den / num) ⌝ }
 {
     if period < l {
@@ -95,7 +96,7 @@ pub fn bound_of(
     period: u64,
     own: u64,
 ) -> Frac
-    requires { ⌜ FineDemand (now periods) (now sums) n × (1 ≤ period) × (period ≤ 2 ^ 20) × (1 ≤ own) × (own ≤ 2 ^ 23) ⌝ }
+    requires { ⌜ FineDemand (now periods) (now sums) n × (1 ≤ period) × (period ≤ numberLimit) × (1 ≤ own) × (own ≤ ownLimit) ⌝ }
     ensures { λ r. ⌜ r ≡ boundOf [] (row period own 0) (drop s (rowsCosting (now (periods .entry)) (now (sums .entry)) n)) ⌝ }
 {
     let mut num = period + 1;
@@ -145,7 +146,7 @@ pub struct RowColumns {
 
 // What a row costs.
 pub fn row_sum(r: Row) -> u64
-    requires { ⌜ (r .budget ≤ 2 ^ 20) × (r .holding ≤ 2 ^ 20) ⌝ }
+    requires { ⌜ (r .budget ≤ numberLimit) × (r .holding ≤ numberLimit) ⌝ }
     ensures { λ x. ⌜ x ≡ rowSum r ⌝ }
 {
     r.budget + r.holding

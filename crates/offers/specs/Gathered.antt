@@ -7,10 +7,11 @@
 --   OfferedAt f .. k == the arrays hold the period and the kept pairs of the part at the place k, and there are some
 --   Gathered f o     == o holds those of all parts; or its `missing` is the number, from 1, of the first part without a kept pair
 -- Assumes nothing.
-use Prim.Native.Nat.{ℕ, suc, _+_, _*_, _^_, _≤_, _<_}
+use Prim.Native.Nat.{ℕ, suc, _+_, _*_, _≤_, _<_}
 use mathlib.Core.Path.{_≡_}
 use mathlib.Core.List.{List}
 use lib.ListN.{length, getD}
+use Rattle.refusal.specs.Limits.{numberLimit}
 use Rattle.task_set.specs.declared.Part.{Part}
 use Rattle.task_set.specs.Tasks.{tasksOf}
 use Rattle.task_set.specs.Fine.{FinePart}
@@ -31,7 +32,7 @@ pub record FineParts (f : PlanFile) : Type 0 where
   pub few : f .count ≤ 16
   pub fine : (k : ℕ) → k < f .count → FinePart (partIn f k)
   pub period-some : (k : ℕ) → k < f .count → 1 ≤ partIn f k .period
-  pub period-most : (k : ℕ) → k < f .count → partIn f k .period ≤ 2 ^ 20
+  pub period-most : (k : ℕ) → k < f .count → partIn f k .period ≤ numberLimit
 
 abbrev pub budgetIn : Kept → ℕ → ℕ
 budgetIn kept i = getD (kept .pairs) i (pair 0 0) .budget

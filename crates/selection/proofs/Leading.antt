@@ -2,7 +2,7 @@
 --   Ahead rows s bound blocking == a row before the place s has this bound and this blocking, and no row before s has a greater bound
 --   Leading rows s bound blocking == the same, or s is 0 and the bound 0/1
 -- Assumes nothing.
-use Prim.Native.Nat.{ℕ, _+_, _^_, _≤_, _<_}
+use Prim.Native.Nat.{ℕ, _+_, _≤_, _<_}
 use native.Mathlib.Omega.{arith}
 use native.Mathlib.Decide.{ℕ-discrete}
 use mathlib.Core.Path.{_≡_, sym, ap, _∙_}
@@ -14,6 +14,7 @@ use lib.ListN.{length, getD, drop}
 use Rattle.least.specs.declared.Frac.{Frac}
 use Rattle.least.specs.Fraction.{frac, _⊑_, _⊏_, atMost}
 use Rattle.least.proofs.Fraction.{⊑-refl, ⊑-trans, ⊏-⊑}
+use Rattle.refusal.specs.Limits.{numberLimit}
 use Rattle.load.specs.declared.Row.{Row}
 use Rattle.load.specs.Load.{row, rowSum, boundOf}
 use Rattle.load.specs.ByColumn.{rowsCosting, rowsBy, FineColumns}
@@ -34,7 +35,7 @@ Leading rows s bound blocking = ((s ≡ 0) × (bound ≡ frac 0 1)) ⊎ Ahead ro
 
 -- the same, with small numbers
 abbrev pub SmallLeading : List Row → ℕ → Frac → ℕ → Type 0
-SmallLeading rows s bound blocking = Leading rows s bound blocking × (bound .num ≤ 2 ^ 20) × (bound .den ≤ 2 ^ 20)
+SmallLeading rows s bound blocking = Leading rows s bound blocking × (bound .num ≤ numberLimit) × (bound .den ≤ numberLimit)
 
 pub leading-as : (rows : List Row) (s : ℕ) {b c : Frac} {x y : ℕ} → b ≡ c → x ≡ y → SmallLeading rows s c y → SmallLeading rows s b x
 leading-as rows s e f h = rw (e, f) h
@@ -65,12 +66,12 @@ module _ (periods sums holdings : List ℕ) (n : ℕ) (fine : FineColumns period
   pub bound-is : (s below : ℕ) (b : Frac) → s < n → below ≡ heldBefore R s → b ≡ boundOf [] (row (getD periods s 0) (getD sums s 0 + below) 0) (drop (s + 1) (rowsCosting periods sums n)) → b ≡ boundAt R s
   bound-is s below b h e q = rw e at q ∙ sym (bound-at periods sums holdings n fine s h)
 
-  pub bound-small : (s : ℕ) → s < n → (boundAt R s .num ≤ 2 ^ 20) × (boundAt R s .den ≤ 2 ^ 20)
+  pub bound-small : (s : ℕ) → s < n → (boundAt R s .num ≤ numberLimit) × (boundAt R s .den ≤ numberLimit)
   bound-small s h =
       let l : s < length R = omega (arith, rows-length periods sums holdings n) in
       let p = fine .demand .fine in
       let b = boundAt-small R s l (rw (rows-get periods sums holdings n s h) (p .some s h)) in
-      let e : getD R s noRow .period ≤ 2 ^ 20 = rw (rows-get periods sums holdings n s h) (p .most s h) in
+      let e : getD R s noRow .period ≤ numberLimit = rw (rows-get periods sums holdings n s h) (p .most s h) in
       (omega arith, omega arith)
 
   pub boundAt-fine : (s : ℕ) → s < n → FineBest (boundAt R s)

@@ -121,6 +121,7 @@ module _ {periods budgets holdings counts : List ℕ} {n : ℕ} where
       };
       some = λ k h. omega (arith, are .sums k h, row-fine k h .budget-some);
       holds = λ k h. omega (arith, are .sums k h, are .times k h);
+      holdings-most = λ k h. omega (arith, are .times k h, row-fine k h .holding-most);
     }
 
     turn-rows : rowsNow t ≡ rows

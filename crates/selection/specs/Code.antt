@@ -5,16 +5,16 @@
 --                         a part the holding time falls, and Q + X does not
 --   boundAt rows s     == the bound of the row at the place s
 --   heldBefore rows s  == what blocks it: the greatest holding time of the rows before it
---   FinePlaces budgets holdings places n == each of n parts has a place below 121, with numbers up to 2^20
+--   FinePlaces budgets holdings places n == each of n parts has a place below 121, with numbers within the limit
 --   ColumnsAre budgets holdings places n c == c holds the sums and the holding times of the rows at these places
---   FineBest best     == 1/0, or a fraction of at most 1 of numbers from 1 to 2^20
+--   FineBest best     == 1/0, or a fraction of at most 1 of numbers from 1 to the limit
 --   UntilIs best l u  == in proportion to the times up to u, and to no later one, a load of l is at least `best`
 --   StuckIs rows best r == r is the blocking of a row whose bound is not below `best`, if there is such a row
 --   HeaviestIs rows w == w is the bound and the blocking of a row that reaches the load
 --   MoverIs counts holdings places n x j == j is the first of n parts that holds for x, and has a next row; or there is no such part, and j is n
 --   ChoiceIs .. c     == c holds the first choice of least load, if any choice passes
 -- Assumes nothing.
-use Prim.Native.Nat.{ℕ, suc, _+_, _*_, _^_, _≤_, _<_}
+use Prim.Native.Nat.{ℕ, suc, _+_, _*_, _≤_, _<_}
 use mathlib.Core.Path.{_≡_}
 use mathlib.Core.Bool.{true, false}
 use mathlib.Core.Logic.{_⊎_}
@@ -23,6 +23,7 @@ use lib.ListN.{length, getD, take}
 use Rattle.least.specs.declared.Frac.{Frac}
 use Rattle.least.specs.Lists.{greatest, some, countFrom}
 use Rattle.least.specs.Fraction.{noBound, _⊑_, _⊏_}
+use Rattle.refusal.specs.Limits.{numberLimit}
 use Rattle.load.specs.declared.Row.{Row}
 use Rattle.load.specs.Load.{row, rowSum, boundsOf, passesSystem}
 use Rattle.load.specs.ByColumn.{rowsBy, FineColumns}
@@ -57,8 +58,8 @@ heldBefore rows s = greatest (map (λ k. k .holding) (reverse (take s rows)))
 pub record FinePlaces (budgets holdings places : List ℕ) (n : ℕ) : Type 0 where
   pub few : n ≤ 16
   pub within : (k : ℕ) → k < n → getD places k 0 < 121
-  pub budgets-most : (k : ℕ) → k < n → getD budgets (121 * k + getD places k 0) 0 ≤ 2 ^ 20
-  pub holdings-most : (k : ℕ) → k < n → getD holdings (121 * k + getD places k 0) 0 ≤ 2 ^ 20
+  pub budgets-most : (k : ℕ) → k < n → getD budgets (121 * k + getD places k 0) 0 ≤ numberLimit
+  pub holdings-most : (k : ℕ) → k < n → getD holdings (121 * k + getD places k 0) 0 ≤ numberLimit
 
 pub record ColumnsAre (budgets holdings places : List ℕ) (n : ℕ) (c : Columns) : Type 0 where
   pub sums : (k : ℕ) → k < n → getD (c .sums) k 0 ≡ getD budgets (121 * k + getD places k 0) 0 + getD holdings (121 * k + getD places k 0) 0
@@ -66,8 +67,8 @@ pub record ColumnsAre (budgets holdings places : List ℕ) (n : ℕ) (c : Column
 
 pub record FineBest (best : Frac) : Type 0 where
   pub proper : (best ≡ noBound) ⊎ ((1 ≤ best .num) × (best .num ≤ best .den))
-  pub num-most : best .num ≤ 2 ^ 20
-  pub den-most : best .den ≤ 2 ^ 20
+  pub num-most : best .num ≤ numberLimit
+  pub den-most : best .den ≤ numberLimit
 
 pub record UntilIs (best : Frac) (l u : ℕ) : Type 0 where
   pub within : (t : ℕ) → t ≤ u → (t < l) ⊎ (best .num * t ≤ l * best .den)

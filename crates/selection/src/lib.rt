@@ -2,12 +2,13 @@
 use least::Frac;
 ghost use mathlib.Core.Path.{_≡_};
 ghost use mathlib.Core.List.{[]};
-ghost use Prim.Native.Nat.{ℕ, _^_, _≤_, _<_};
+ghost use Prim.Native.Nat.{ℕ, _≤_, _<_};
 ghost use lib.ListN.{getD, drop};
 ghost use Rattle.least.specs.Fraction.{atMost};
+ghost use Rattle.refusal.specs.Limits.{numberLimit};
 ghost use Rattle.demand.specs.Demand.{FineDemand};
 ghost use Rattle.load.specs.Load.{row, boundOf};
-ghost use Rattle.load.specs.ByColumn.{rowsCosting, rowsBy, FineColumns};
+ghost use Rattle.load.specs.ByColumn.{rowsCosting, rowsBy, ownLimit, FineColumns};
 ghost use Rattle.selection.specs.Code.{FineOffers, FinePlaces, ColumnsAre, FineBest, UntilIs, StuckIs, HeaviestIs, MoverIs, ChoiceIs};
 
 // A choice by columns: what each part's row costs, and its holding time.
@@ -43,7 +44,7 @@ fn columns_at(
 
 // The last time to which a load of l is in a proportion of at least `best`.
 fn until_reached(l: u64, best: Frac) -> u64
-    requires { ⌜ (1 ≤ l) × (l ≤ 2 ^ 20) × FineBest best ⌝ }
+    requires { ⌜ (1 ≤ l) × (l ≤ numberLimit) × FineBest best ⌝ }
     ensures { λ u. ⌜ UntilIs best l u ⌝ }
 {
     let num = best.num;
@@ -65,7 +66,7 @@ fn reaches(
     own: u64,
     best: Frac,
 ) -> bool
-    requires { ⌜ FineDemand (now periods) (now sums) n × (1 ≤ period) × (period ≤ 2 ^ 20) × (1 ≤ own) × (own ≤ 2 ^ 23) × FineBest best ⌝ }
+    requires { ⌜ FineDemand (now periods) (now sums) n × (1 ≤ period) × (period ≤ numberLimit) × (1 ≤ own) × (own ≤ ownLimit) × FineBest best ⌝ }
     ensures { λ r. ⌜ r ≡ atMost best (boundOf [] (row period own 0) (drop s (rowsCosting (now (periods .entry)) (now (sums .entry)) n))) ⌝ }
 {
     let mut done: u64 = 0;

@@ -1,6 +1,6 @@
 -- The blocking by ceilings and the table of the longest uses: it is the paper's blocking, and it is small.
 -- Assumes nothing.
-use Prim.Native.Nat.{ℕ, zero, suc, _+_, _-_, _*_, _^_, _≤_, _<_}
+use Prim.Native.Nat.{ℕ, zero, suc, _+_, _-_, _*_, _≤_, _<_}
 use native.Mathlib.Omega.{arith}
 use native.Mathlib.Decide.{decLe}
 use mathlib.Core.Path.{_≡_, refl, ap, _∙_}
@@ -12,6 +12,7 @@ use Rattle.least.specs.Lists.{countFrom}
 use Rattle.least.proofs.Lists.{count-from, count-to, map-iff}
 use Rattle.least.proofs.Greatest.{greatest-each, greatest-le}
 use Rattle.least.proofs.Members.{take-member, reverse-iff}
+use Rattle.refusal.specs.Limits.{numberLimit}
 use Rattle.task_set.specs.declared.Task.{Task}
 use Rattle.task_set.specs.declared.Part.{Part}
 use Rattle.task_set.specs.Tasks.{heldFor, withLocks, tasksOf}
@@ -31,8 +32,8 @@ blocked-for-not ceiling c i h = rw (lt-leb (suc i) ceiling (omega arith)) refl
 setting-at : (ceilings : List ℕ) (j : ℕ) → settingOf ceilings (suc j) ≡ getD ceilings j 0
 setting-at ceilings j = let e : suc j - 1 ≡ j = omega arith in rw e refl
 
--- tasks of a fine part block for at most 2^20 ticks
-pub blocking-most : (p : Part) → FinePart p → (σ : Setting) (lower : List Task) → ((t : Task) → List·Memᴰ t lower → List·Memᴰ t (tasksOf p)) → blockingOf (p .locks) σ lower ≤ 2 ^ 20
+-- tasks of a fine part block for no more ticks than a number may have
+pub blocking-most : (p : Part) → FinePart p → (σ : Setting) (lower : List Task) → ((t : Task) → List·Memᴰ t lower → List·Memᴰ t (tasksOf p)) → blockingOf (p .locks) σ lower ≤ numberLimit
 blocking-most p fine σ lower among =
     ⊎-elim (λ z. omega (arith, z)) (λ r. let k = r .2 .1 in omega (arith, r .3, held-most p fine (r .1) (k .from) (k .upto) (r .0) (among (r .0) (r .2 .0)))) (blocking-paper (p .locks) σ lower .1)
 
@@ -94,5 +95,5 @@ module _ (p : Part) (fine : FinePart p) (i : ℕ) (here : i < p .count) where
     pub blocking-same : blockingBy table ceilings (p .locks) i ≡ blockingOf (p .locks) (settingOf ceilings) (lowerThan i (tasksOf p))
     blocking-same = ⊎-elim (λ z. omega (arith, z, by-most)) (λ r. omega (arith, r .3, by-most, reached-most (r .0) (r .1) (r .2))) (blocking-paper (p .locks) (settingOf ceilings) (lowerThan i (tasksOf p)) .1)
 
-    pub blocking-small : blockingBy table ceilings (p .locks) i ≤ 2 ^ 20
+    pub blocking-small : blockingBy table ceilings (p .locks) i ≤ numberLimit
     blocking-small = omega (arith, blocking-same, blocking-most p fine (settingOf ceilings) (lowerThan i (tasksOf p)) (lower-among i (tasksOf p)))

@@ -1,7 +1,7 @@
 -- The locks of a part: what one more task adds to a lock, and how large a lock's numbers are.
 --   Counted l ts k lock == the tasks before the place k are counted in the lock: with the tasks from k on it makes up lock l
 -- Assumes nothing.
-use Prim.Native.Nat.{ℕ, suc, _+_, _^_, min, max, _≤_, _<_}
+use Prim.Native.Nat.{ℕ, suc, _+_, min, max, _≤_, _<_}
 use native.Mathlib.Numerals.{add-one}
 use native.Mathlib.Omega.{arith}
 use native.Mathlib.Decide.{decLe}
@@ -17,6 +17,7 @@ use Rattle.least.proofs.Lists.{smallest-member, those-pass, those-fail, those-i
 use Rattle.least.proofs.Greatest.{greatest-le, greatest-reached}
 use Rattle.least.proofs.Members.{drop-member}
 use Rattle.least.proofs.Numbers.{numbers-pass, numbers-fail, numbers-most, numbers-some}
+use Rattle.refusal.specs.Limits.{numberLimit}
 use Rattle.task_set.specs.declared.Task.{Task}
 use Rattle.task_set.specs.declared.Part.{Part}
 use Rattle.task_set.specs.declared.Lock.{Lock}
@@ -154,7 +155,7 @@ module _ (l : ℕ) (ts : List Task) where
 
 -- the locks of a part
 module _ (p : Part) (fine : FinePart p) where
-  fine-deadline : (t : Task) → List·Memᴰ t (tasksOf p) → (1 ≤ t .deadline) × (t .deadline ≤ 2 ^ 20)
+  fine-deadline : (t : Task) → List·Memᴰ t (tasksOf p) → (1 ≤ t .deadline) × (t .deadline ≤ numberLimit)
   fine-deadline t m =
       let h = tasks-place p fine m in
       let f = fine .each (h .0) (h .1) in
@@ -173,7 +174,7 @@ module _ (p : Part) (fine : FinePart p) where
       rw e at (counted-step (suc j) (tasksOf p) k lock (withLocks (p .locks) t) fine-due (tasks-at p fine k l) done)
 
   module _ (l : ℕ) (from : 1 ≤ l) (upto : l ≤ p .locks) where
-    pub held-most : (t : Task) → List·Memᴰ t (tasksOf p) → heldFor l t ≤ 2 ^ 20
+    pub held-most : (t : Task) → List·Memᴰ t (tasksOf p) → heldFor l t ≤ numberLimit
     held-most t m =
         let h = tasks-place p fine m in
         let f = fine .each (h .0) (h .1) in
@@ -193,9 +194,9 @@ module _ (p : Part) (fine : FinePart p) where
     unfolding lowestCeiling
     lowest-most = omega (arith, numbers-most (uses l) 0 (tasksOf p), tasks-length p fine)
 
-    pub longest-most : greatestHeld l (tasksOf p) ≤ 2 ^ 20
+    pub longest-most : greatestHeld l (tasksOf p) ≤ numberLimit
     unfolding greatestHeld
-    longest-most = greatest-le (heldFor l) (2 ^ 20) (tasksOf p) held-most
+    longest-most = greatest-le (heldFor l) numberLimit (tasksOf p) held-most
 
     -- the smallest deadline is that of a task
     smallest-due : (t : Task) × List·Memᴰ t (tasksOf p) × (t .deadline ≡ smallestDeadline l (tasksOf p))
@@ -205,5 +206,5 @@ module _ (p : Part) (fine : FinePart p) where
         let h = map-iff (λ k. k .deadline) (smallestDeadline l (tasksOf p)) (those (uses l) (tasksOf p)) .0 (smallest-member (map (λ k. k .deadline) (those (uses l) (tasksOf p))) some) in
         (h .0, those-iff (uses l) (h .0) (tasksOf p) .0 (h .1) .0, h .2)
 
-    pub deadline-most : smallestDeadline l (tasksOf p) ≤ 2 ^ 20
+    pub deadline-most : smallestDeadline l (tasksOf p) ≤ numberLimit
     deadline-most = let d = smallest-due in omega (arith, d .2, fine-deadline (d .0) (d .1))

@@ -1,10 +1,11 @@
 -- What the structs of a readable file hold.
---   FineTask, FinePart == the numbers of a task and of a part are in range: 1 ≤ C ≤ D ≤ T ≤ 2^20, c ≤ C, and every lock has a user
+--   FineTask, FinePart == the numbers of a task and of a part are in range: 1 ≤ C ≤ D ≤ T, which is within the limit of numbers, c ≤ C, and every lock has a user
 -- Assumes nothing.
-use Prim.Native.Nat.{ℕ, _^_, _≤_, _<_}
+use Prim.Native.Nat.{ℕ, _≤_, _<_}
 use mathlib.Core.Path.{_≡_}
 use mathlib.Core.List.{[]}
 use lib.ListN.{length, getD}
+use Rattle.refusal.specs.Limits.{numberLimit}
 use Rattle.task_set.specs.declared.Task.{Task}
 use Rattle.task_set.specs.declared.Part.{Part}
 use Rattle.task_set.specs.Tasks.{heldFor, greatestHeld, tasksOf}
@@ -18,7 +19,7 @@ pub record FineTask (m : ℕ) (t : Task) : Type 0 where
   pub cost-some : 1 ≤ t .cost
   pub cost-most : t .cost ≤ t .deadline
   pub deadline-most : t .deadline ≤ t .separation
-  pub separation-most : t .separation ≤ 2 ^ 20
+  pub separation-most : t .separation ≤ numberLimit
   pub uses-most : (l : ℕ) → 1 ≤ l → l ≤ m → heldFor l t ≤ t .cost
 
 pub record FinePart (p : Part) : Type 0 where

@@ -70,7 +70,7 @@ demand-from-requires : tie.Need-demand-from-requires Inv-loop μ-loop
 demand-from-requires c κs = let s = c .before .before .before in (times-fine (s .args .separations .now) (s .args .costs .now) (s .args .n) (s .pre .0), omega arith, omega arith)
 
 add-need : tie.Need-add-need Inv-loop μ-loop
-add-need c = omega (arith, c .demand-from .ensures .small, fine (c .before .before .before .before))
+add-need c = omega (arith, c .demand-from .ensures .most, fine (c .before .before .before .before))
 
 -- what the code computes is the need at t
 is : (c : tie.After-demand-from Inv-loop μ-loop) →

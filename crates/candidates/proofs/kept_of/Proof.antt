@@ -1,11 +1,12 @@
 -- `candidates::kept_of` meets its contract. The invariant: the search has come to x, and the pairs are those that the walk keeps above x.
 -- Assumes nothing.
-use Prim.Native.Nat.{ℕ, _≤_, _<_}
+use Prim.Native.Nat.{ℕ, _+_, _≤_, _<_}
 use native.Mathlib.Omega.{arith}
 use borrow.Author.Tests.{not-true, not-false}
 use mathlib.Core.Path.{_≡_, _∙_}
 use mathlib.Core.Bool.{true}
 use mathlib.Core.List.{List}
+use Rattle.refusal.specs.Limits.{numberLimit}
 use Rattle.task_set.specs.declared.Part.{Part}
 use Rattle.task_set.specs.declared.Columns.{Columns}
 use Rattle.task_set.specs.declared.Locks.{Locks}
@@ -72,7 +73,7 @@ longest-below-requires : tie.Need-longest-below-requires Inv-loop μ-loop
 longest-below-requires c κs = tt
 
 loop-holds : tie.Need-loop-holds Inv-loop μ-loop
-loop-holds c = let d = c .before in searching-start (part d) (columns d) (locks d) (table d) (ready d) 1048577 (omega arith)
+loop-holds c = let d = c .before in searching-start (part d) (columns d) (locks d) (table d) (ready d) (numberLimit + 1) (omega arith)
 
 raise-requires : tie.Need-raise-requires Inv-loop μ-loop
 raise-requires c κs =

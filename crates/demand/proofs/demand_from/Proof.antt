@@ -1,12 +1,12 @@
 -- `demand::demand_from` meets its contract. The invariant: what is summed and what those from the place k on ask for make up the whole.
 -- Assumes nothing.
-use Prim.Native.Nat.{_+_, _-_, _*_, _^_, _≤_}
+use Prim.Native.Nat.{_+_, _-_, _*_, _≤_}
 use mathlib.Core.Path.{_≡_}
 use lib.ListN.{getD}
 use native.Mathlib.Numerals.{add-one}
 use native.Mathlib.Omega.{arith}
-use Rattle.demand.specs.Demand.{demandFrom}
-use Rattle.demand.proofs.Demand.{demand-none, demand-next, demand-small}
+use Rattle.demand.specs.Demand.{demandFrom, demandLimit}
+use Rattle.demand.proofs.Demand.{demand-none, demand-next, demand-most}
 use Rattle.demand.proofs.demand_from.Statement.{statement}
 use Rattle.demand.proofs.demand_from.Tie as tie
 
@@ -16,9 +16,9 @@ Inv-loop periods costs n s t sum₀ k₀ sum k = sum + demandFrom periods costs 
 abbrev μ-loop : tie.MeasureT-loop
 μ-loop periods costs n s t sum₀ k₀ sum k = n - k
 
--- the whole is small, and so is the sum
-whole : (c : tie.Start Inv-loop μ-loop) → demandFrom (c .args .periods .now) (c .args .costs .now) (c .args .n) (c .args .s) (c .args .t) ≤ 2 ^ 46
-whole c = demand-small (c .args .periods .now) (c .args .costs .now) (c .args .n) (c .pre .0) (c .args .t) (c .pre .2) (c .args .s)
+-- the whole is within its limit, and so is the sum
+whole : (c : tie.Start Inv-loop μ-loop) → demandFrom (c .args .periods .now) (c .args .costs .now) (c .args .n) (c .args .s) (c .args .t) ≤ demandLimit
+whole c = demand-most (c .args .periods .now) (c .args .costs .now) (c .args .n) (c .pre .0) (c .args .t) (c .pre .2) (c .args .s)
 
 -- what the turn adds, and what is left
 turn : (c : tie.After-sum Inv-loop μ-loop) →
@@ -69,7 +69,7 @@ returns : tie.Need-returns Inv-loop μ-loop
 returns c =
     let s = c .before .before in
     let none = demand-none (s .args .periods .now) (s .args .costs .now) (s .args .n) (c .before .loop .k) (s .args .t) (c .loop-test .left) in
-    record { value = omega (arith, none); small = omega (arith, none, whole s) }
+    record { value = omega (arith, none); most = omega (arith, none, whole s) }
 
 pub demand-from-spec : {M : Type 1} → statement M
 demand-from-spec =

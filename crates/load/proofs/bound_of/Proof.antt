@@ -29,7 +29,7 @@ demand-from-requires : tie.Need-demand-from-requires Inv-loop μ-loop
 demand-from-requires c κs = (c .before .before .pre .0, omega arith, omega arith)
 
 add-l : tie.Need-add-l Inv-loop μ-loop
-add-l c = omega (arith, c .demand-from .ensures .small)
+add-l c = omega (arith, c .demand-from .ensures .most)
 
 no-smaller-until-requires : tie.Need-no-smaller-until-requires Inv-loop μ-loop
 no-smaller-until-requires c κs = let b = c .before .before .loop .inv .0 in (b .some, omega arith, omega arith, b .reach)

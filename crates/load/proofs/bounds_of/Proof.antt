@@ -1,12 +1,13 @@
 -- `load::bounds_of` meets its contract. The invariant: the first s places hold their rows' bounds, and the row at the place s is blocked as `blocking` says.
 -- Assumes nothing.
-use Prim.Native.Nat.{_-_, _^_, _≤_}
+use Prim.Native.Nat.{_-_, _≤_}
 use native.Mathlib.Omega.{arith}
 use mathlib.Core.Path.{_≡_, sym, ap, _∙_}
 use borrow.Author.Needs.{needs}
 use lib.ListN.{take, getD}
 use lib.Seq.{take-all}
 use Rattle.least.specs.Lists.{pad}
+use Rattle.refusal.specs.Limits.{numberLimit}
 use Rattle.load.specs.Load.{boundsOf}
 use Rattle.load.specs.ByColumn.{rowsBy}
 use Rattle.load.specs.Code.{noFrac}
@@ -16,7 +17,7 @@ use Rattle.load.proofs.bounds_of.Statement.{statement}
 use Rattle.load.proofs.bounds_of.Tie as tie
 
 abbrev Inv-loop : tie.InvT-loop
-Inv-loop periods sums holdings n bounds₀ blocking₀ s₀ bounds blocking s = (bounds ≡ pad 16 noFrac (take s (boundsOf (rowsBy periods sums holdings n)))) × (blocking ≡ blockingAt periods sums holdings n s) × (s ≤ n) × (blocking ≤ 2 ^ 22)
+Inv-loop periods sums holdings n bounds₀ blocking₀ s₀ bounds blocking s = (bounds ≡ pad 16 noFrac (take s (boundsOf (rowsBy periods sums holdings n)))) × (blocking ≡ blockingAt periods sums holdings n s) × (s ≤ n) × (blocking ≤ numberLimit)
 
 abbrev μ-loop : tie.MeasureT-loop
 μ-loop periods sums holdings n bounds₀ blocking₀ s₀ bounds blocking s = n - s
@@ -80,8 +81,7 @@ loop-again c =
     let at = c .before .before .before .before .before .before .loop in
     let l = c .before .before .before .before .before .loop-test .taken in
     let next = bounds-next (a .periods .now) (a .sums .now) (a .holdings .now) (a .n) (s .pre) (at .s) (c .before .before .bound-of .result) l (rw (← at .inv .1) (c .before .before .bound-of .ensures)) in
-    let holds : getD (a .holdings .now) (at .s) 0 ≤ 2 ^ 22 = omega (arith, s .pre .holds (at .s) l, s .pre .demand .most (at .s) l) in
-    (rw (at .inv .0) next, omega (arith, c .larger .ensures, at .inv .1, blocking-next (a .periods .now) (a .sums .now) (a .holdings .now) (a .n) (at .s) l), omega arith, omega (arith, c .larger .ensures))
+    (rw (at .inv .0) next, omega (arith, c .larger .ensures, at .inv .1, blocking-next (a .periods .now) (a .sums .now) (a .holdings .now) (a .n) (at .s) l), omega arith, omega (arith, c .larger .ensures, s .pre .holdings-most (at .s) l))
 
 returns : tie.Need-returns Inv-loop μ-loop
 returns c =

@@ -39,7 +39,7 @@ is-less-requires c κs =
     let at = c .before .before .before .loop in
     let a = s .pre .0 .each (at .j) (omega (arith, at .inv .0 .within)) in
     let b = s .pre .0 .each (at .k) (c .before .before .loop-test .taken) in
-    (a .num-most, a .den-most, b .num-most, b .den-most)
+    (omega (arith, a .num-most), omega (arith, a .den-most), omega (arith, b .num-most), omega (arith, b .den-most))
 
 add-k : tie.Need-add-k Inv-loop μ-loop
 add-k c = omega arith

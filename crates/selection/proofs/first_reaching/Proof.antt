@@ -1,11 +1,12 @@
 -- `selection::first_reaching` meets its contract. The invariant: the bound of every row before s is below `best`, and the row at the place s is blocked
 -- as `below` says.
 -- Assumes nothing.
-use Prim.Native.Nat.{ℕ, _-_, _^_, _≤_, _<_}
+use Prim.Native.Nat.{ℕ, _-_, _≤_, _<_}
 use mathlib.Core.Path.{_≡_, sym}
 use lib.ListN.{getD}
 use native.Mathlib.Omega.{arith}
 use Rattle.least.specs.Fraction.{_⊏_}
+use Rattle.refusal.specs.Limits.{numberLimit}
 use Rattle.load.specs.ByColumn.{rowsBy}
 use Rattle.load.proofs.RowsBy.{blocking-none, blocking-next}
 use Rattle.selection.specs.Code.{boundAt, heldBefore}
@@ -15,7 +16,7 @@ use Rattle.selection.proofs.first_reaching.Tie as tie
 
 abbrev Inv-loop : tie.InvT-loop
 Inv-loop periods sums holdings n best below₀ s₀ below s =
-    ((k : ℕ) → k < s → boundAt (rowsBy periods sums holdings n) k ⊏ best) × (below ≡ heldBefore (rowsBy periods sums holdings n) s) × (s ≤ n) × (below ≤ 2 ^ 22)
+    ((k : ℕ) → k < s → boundAt (rowsBy periods sums holdings n) k ⊏ best) × (below ≡ heldBefore (rowsBy periods sums holdings n) s) × (s ≤ n) × (below ≤ numberLimit)
 
 abbrev μ-loop : tie.MeasureT-loop
 μ-loop periods sums holdings n best below₀ s₀ below s = n - s
@@ -79,12 +80,11 @@ loop-again c =
     let a = r .before .before .before .before .before .args in
     let f = r .before .before .before .before .before .pre .0 in
     let l = r .before .before .before .before .loop in
-    let h = r .before .before .before .loop-test .taken in
-    let held : getD (a .holdings .now) (l .s) 0 ≤ 2 ^ 22 = omega (arith, f .holds (l .s) h, f .demand .most (l .s) h) in (
+    let h = r .before .before .before .loop-test .taken in (
       stuck-next (a .periods .now) (a .sums .now) (a .holdings .now) (a .n) f (a .best) (l .s) (l .below) (r .reaches .result) h (l .inv .1) (r .reaches .ensures) (c .before .before .if1 .left) (l .inv .0),
       omega (arith, c .larger .ensures, l .inv .1, blocking-next (a .periods .now) (a .sums .now) (a .holdings .now) (a .n) (l .s) h),
       omega arith,
-      omega (arith, c .larger .ensures),
+      omega (arith, c .larger .ensures, f .holdings-most (l .s) h),
     )
 
 returns-2 : tie.Need-returns-2 Inv-loop μ-loop

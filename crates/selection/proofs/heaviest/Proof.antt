@@ -1,7 +1,7 @@
 -- `selection::heaviest` meets its contract. The invariant: the bound and the blocking are those of a row before s that reaches the greatest bound so far,
 -- and the row at the place s is blocked as `below` says.
 -- Assumes nothing.
-use Prim.Native.Nat.{ℕ, _+_, _-_, _^_, _≤_, _<_}
+use Prim.Native.Nat.{ℕ, _+_, _-_, _≤_, _<_}
 use mathlib.Core.Path.{_≡_, refl, sym, _∙_}
 use lib.ListN.{length, getD}
 use native.Mathlib.Omega.{arith}
@@ -9,6 +9,7 @@ use mathlib.Core.Logic.{inl, ⊎-elim}
 use mathlib.Core.List.{List}
 use borrow.Author.Tests.{not-true, not-false}
 use Rattle.least.proofs.Fraction.{less-true, less-false}
+use Rattle.refusal.specs.Limits.{numberLimit}
 use Rattle.load.specs.declared.Row.{Row}
 use Rattle.load.specs.ByColumn.{rowsBy}
 use Rattle.load.proofs.RowsBy.{rows-length, blocking-none, blocking-next}
@@ -19,7 +20,7 @@ use Rattle.selection.proofs.heaviest.Tie as tie
 
 abbrev Inv-loop : tie.InvT-loop
 Inv-loop periods sums holdings n bound₀ blocking₀ below₀ s₀ bound blocking below s =
-    SmallLeading (rowsBy periods sums holdings n) s bound blocking × (below ≡ heldBefore (rowsBy periods sums holdings n) s) × (s ≤ n) × (below ≤ 2 ^ 22)
+    SmallLeading (rowsBy periods sums holdings n) s bound blocking × (below ≡ heldBefore (rowsBy periods sums holdings n) s) × (s ≤ n) × (below ≤ numberLimit)
 
 abbrev μ-loop : tie.MeasureT-loop
 μ-loop periods sums holdings n bound₀ blocking₀ below₀ s₀ bound blocking below s = n - s
@@ -68,7 +69,7 @@ value c =
     let l = c .before .before .before .before .loop in
     bound-is (a .periods .now) (a .sums .now) (a .holdings .now) (a .n) (c .before .before .before .before .before .pre .0) (l .s) (l .below) _ (c .before .before .before .loop-test .taken) (l .inv .1) (c .bound-of .ensures)
 
-small : (c : tie.After-bound-of Inv-loop μ-loop) → (c .bound-of .result .num ≤ 2 ^ 20) × (c .bound-of .result .den ≤ 2 ^ 20)
+small : (c : tie.After-bound-of Inv-loop μ-loop) → (c .bound-of .result .num ≤ numberLimit) × (c .bound-of .result .den ≤ numberLimit)
 small c = let a = c .before .before .before .before .before .args in rw (value c) (bound-small (a .periods .now) (a .sums .now) (a .holdings .now) (a .n) (c .before .before .before .before .before .pre .0) (place c) (c .before .before .before .loop-test .taken))
 
 is-less-requires : tie.Need-is-less-requires Inv-loop μ-loop
@@ -114,8 +115,7 @@ loop-again c =
     let l = b .before .before .before .before .loop in
     let h = b .before .before .before .loop-test .taken in
     let e = joined (c .before .before) in
-    let held : getD (a .holdings .now) (l .s) 0 ≤ 2 ^ 22 = omega (arith, f .holds (l .s) h, f .demand .most (l .s) h) in
-    (e, omega (arith, c .larger .ensures, l .inv .1, blocking-next (a .periods .now) (a .sums .now) (a .holdings .now) (a .n) (l .s) h), omega arith, omega (arith, c .larger .ensures))
+    (e, omega (arith, c .larger .ensures, l .inv .1, blocking-next (a .periods .now) (a .sums .now) (a .holdings .now) (a .n) (l .s) h), omega arith, omega (arith, c .larger .ensures, f .holdings-most (l .s) h))
 
 returns : tie.Need-returns Inv-loop μ-loop
 returns c =

@@ -24,7 +24,7 @@ demand-from-requires : tie.Need-demand-from-requires Inv-loop μ-loop
 demand-from-requires c κs = (c .before .before .pre .0, omega arith, omega arith)
 
 add-l : tie.Need-add-l Inv-loop μ-loop
-add-l c = omega (arith, c .demand-from .ensures .small)
+add-l c = omega (arith, c .demand-from .ensures .most)
 
 returns : tie.Need-returns Inv-loop μ-loop
 returns c =

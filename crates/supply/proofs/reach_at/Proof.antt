@@ -1,8 +1,9 @@
 -- `supply::reach_at` meets its contract: it is the inverse of the supply; its numbers are small.
 -- Assumes nothing.
-use Prim.Native.Nat.{_+_, _-_, _*_, _^_, _≤_}
+use Prim.Native.Nat.{_+_, _-_, _*_, _≤_}
 use native.Mathlib.Omega.{arith}
 use borrow.Author.Needs.{needs}
+use Rattle.refusal.specs.Limits.{numberLimit}
 use Rattle.supply.proofs.reach_at.Statement.{statement}
 use Rattle.supply.proofs.reach_at.Tie as tie
 use Rattle.supply.proofs.SupplyLaws.{reach, reach-iff}
@@ -11,7 +12,7 @@ use Rattle.supply.proofs.Small.{reach-small}
 ceil-div-requires : tie.Need-ceil-div-requires
 ceil-div-requires c κs = search needs
 
-small : (c : tie.After-ceil-div) → (c .ceil-div .result ≤ 2 ^ 20) × ((c .ceil-div .result + 1) * (c .before .args .p - c .before .args .q) ≤ (2 ^ 20 + 1) * 2 ^ 20)
+small : (c : tie.After-ceil-div) → (c .ceil-div .result ≤ numberLimit) × ((c .ceil-div .result + 1) * (c .before .args .p - c .before .args .q) ≤ (numberLimit + 1) * numberLimit)
 small c = let a = c .before .args in reach-small (a .p) (a .q) (a .x) (c .ceil-div .result) (omega arith) (omega arith) (omega arith) (c .ceil-div .ensures)
 
 add-result : tie.Need-add-result
