@@ -33,6 +33,8 @@ THEOREMS = [
     ('examples', 'all-shut-out', 'AllShutOut'),
     ('scan', 'every-line-scanned', 'EveryLineScanned lineAt'),
     ('scan', 'scan-settled', 'ScanSettled'),
+    ('ranges', 'numbers-up-to', 'NumbersUpTo 1000000'),
+    ('ranges', 'greatest-values', 'GreatestValues 1000000'),
 ]
 # How many rows of the table of examples each letter has.
 ROWS = {'A': 1, 'B': 5, 'C': 2, 'D': 1, 'E': 1, 'F': 1, 'G': 1, 'H': 1, 'I': 1, 'J': 1, 'K': 5, 'L': 3}
@@ -237,6 +239,19 @@ def check_one_pass(top):
             yield f'scan: the place in the line moves by `{change}`'
 
 
+# ---- one limit of numbers
+
+def check_one_limit(top):
+    """The limit of numbers (M103b) is written down once in the definitions, for everything that is asked, and once in the code; the programs that are tests, and the table of examples, have their own."""
+    for what, kind, tests in (('the definitions', 'specs/**/*.antt', {'examples'}), ('the code', 'src/**/*.rt', {'by_hand'})):
+        places = [path for name in crates(top) if name not in tests for path in sorted((top / 'crates' / name).glob(kind))]
+        found = [path.relative_to(top) for path in places for _ in re.findall(r'(?<![\w.])1_?000_?00[01](?!\w)', source(path))]
+        if len(found) != 1 or found[0].parts[1] != 'refusal':
+            yield f'the limit of numbers stands {len(found)} times in {what}, and must stand once, in refusal: ' + ', '.join(map(str, found))
+    if not re.search(r'\bPLANNER_MOST_NUMBER = 1000000\b', (top / 'include' / 'planner.h').read_text()):
+        yield 'include/planner.h: PLANNER_MOST_NUMBER is not the limit of numbers'
+
+
 # ---- theorems, examples, verdicts
 
 def check_theorems(top):
@@ -269,6 +284,15 @@ def check_example_a(top):
             yield f'README.md: {name} of crates/examples/specs/Files.antt does not stand in it'
 
 
+def check_poster(top):
+    """The file of long jobs in the guide, and its plan, are those of the test program `cases`, byte for byte."""
+    cases, guide = top / 'crates' / 'cases', (top / 'docs' / 'GUIDE.md').read_text()
+    printed = re.search(r'^== m103-poster\n((?:[a-z].*\n)+)', (cases / 'stdout').read_text(), re.M)
+    for what, text in (('the file', (cases / 'data' / 'm103-poster').read_text()), ('the plan', printed and printed[1])):
+        if not text or f'```\n{text}```' not in guide:
+            yield f'docs/GUIDE.md: {what} of crates/cases/data/m103-poster does not stand in it'
+
+
 def check_verdicts(top):
     """Every library is proved, and its verdict names nothing that is assumed."""
     for name in crates(top):
@@ -296,7 +320,7 @@ def check_tests(top):
 
 CHECKS = [
     check_contracts, check_names, check_words, check_trace, check_requests, check_notes, check_statements, check_uses, check_quotes,
-    check_edits, check_shut_outs, check_one_pass, check_theorems, check_table, check_example_a, check_verdicts, check_tests,
+    check_edits, check_shut_outs, check_one_pass, check_one_limit, check_theorems, check_table, check_example_a, check_poster, check_verdicts, check_tests,
 ]
 
 if __name__ == '__main__':

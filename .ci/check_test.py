@@ -110,6 +110,7 @@ pub record HandedOver (r : Planned) : Type 0 where
 """
 DEMAND_1, SCAN = 'crates/planner/specs/Demand1.antt', 'crates/scan/specs/Scan.antt'
 SCAN_CODE, CURSOR = 'crates/scan/src/lib.rt', 'crates/records/src/lib.rt'
+LIMIT, LIMIT_CODE = 'crates/refusal/specs/Limits.antt', 'crates/refusal/src/lib.rt'
 SCANNED = """abbrev pub EveryLineScanned : Type 0
 EveryLineScanned = (s : List ℕ) → ScanIs s
 """
@@ -150,6 +151,8 @@ def right_tree():
         SCAN: SCANNED,
         SCAN_CODE: 'let mut i = at;\nwhile i < s.len() {\n    let b = s[i];\n    if b == 10 {\n        return Scanned { good: true, end: i };\n    }\n    i += 1;\n}\n',
         CURSOR: 'let l = scan::line_at(s, at);\n',
+        LIMIT: 'abbrev pub numberLimit : ℕ\nnumberLimit = 1000000\n',
+        LIMIT_CODE: 'pub const NUMBER_LIMIT: u64 = 1000000;\n',
         'crates/answers/specs/Answers.antt': HANDED,
         'crates/answers/specs/Choice.antt': 'pub record Choice : Type 0 where\n  pub rows : List Row\n',
         'crates/examples/specs/WrongPlanners.antt': 'use Rattle.planner.specs.Demand1.{Demand1, Demand3}\nabbrev pub ShutOut : Type 0\nShutOut = Demand3 → ⊥\n',
@@ -157,9 +160,12 @@ def right_tree():
         'docs/PAPER-02.md': '# Paper 02\n' + ''.join(request(name, LANDED if name == 'M-102' else 'Not landed.') for name in papers.SENTENCES),
         'docs/TRACE.md': TRACE + ''.join(f'| {mark} | `least ceilDiv` | – | – |\n' for name in (papers.ALL, 'M-102') for mark in papers.wanted_marks(name)),
         'docs/landings/base-1.md': '# Base 1\n',
+        'docs/GUIDE.md': 'A file:\n\n```\npart\tp\t9\nend\n```\n\n```\nload\tp\n```\n',
+        'crates/cases/data/m103-poster': 'part\tp\t9\nend\n',
+        'crates/cases/stdout': '== m103-poster\nload\tp\n== more\nend\n',
         M_102: NOTE,
         'docs/CHANGELOG.md': '# Changes\n\n## M-102 A title\n\nNo answer changes.\n',
-        'include/planner.h': '',
+        'include/planner.h': 'enum { PLANNER_MOST_NUMBER = 1000000 };\n',
         'tests/src/library.rs': '',
         'tests/tests/library.rs': '#[test]\nfn plans() {}\n',
     }
@@ -349,6 +355,10 @@ SLIPS = [
     (check.check_table, 'the rows of table are', 'crates/examples/specs/Table.antt', 'table =\n', 'table = short\nlong =\n'),
     (check.check_example_a, 'README.md: fileA', 'README.md', 'part\tcard\t20', 'part\tcard\t21'),
     (check.check_example_a, 'README.md: listingA', 'crates/examples/specs/Files.antt', 'listingA = bytes', 'listing = bytes'),
+    (check.check_poster, 'the file of crates/cases/data/m103-poster does not', 'docs/GUIDE.md', 'part\tp\t9', 'part\tp\t8'),
+    (check.check_poster, 'the plan of crates/cases/data/m103-poster does not', 'docs/GUIDE.md', 'load\tp', 'load p'),
+    (check.check_poster, 'the plan of crates/cases/data/m103-poster does not', 'crates/cases/stdout', 'load', 'share'),
+    (check.check_poster, 'the plan of crates/cases/data/m103-poster does not', 'crates/cases/stdout', '== m103-poster', '== m103-posters'),
     (check.check_one_pass, 'scan: a loop stands 2 times', SCAN_CODE, '', 'while i < at {\n}\n'),
     (check.check_one_pass, 'scan: a loop stands 0 times', SCAN_CODE, 'while', '// while'),
     (check.check_one_pass, 'scan: a place where the file is read stands 2 times', SCAN_CODE, 'i += 1;', 'i += 1;\n    let c = s[at];'),
@@ -356,6 +366,11 @@ SLIPS = [
     (check.check_one_pass, 'scan: the place in the line moves by `i = at - 1;`', SCAN_CODE, 'i += 1;', 'i = at - 1;'),
     (check.check_one_pass, 'scan: the place in the line moves by `i -= 1;`', SCAN_CODE, 'i += 1;', 'i -= 1;'),
     (check.check_one_pass, 'records: a call of scan::line_at stands 2 times', CURSOR, '', 'let m = scan::line_at(s, at);\n'),
+    (check.check_one_limit, 'the limit of numbers stands 2 times in the definitions', 'crates/least/specs/Round.antt', '', 'most : ℕ\nmost = 1000000\n'),
+    (check.check_one_limit, 'the limit of numbers stands 0 times in the definitions', LIMIT, '1000000', '65535'),
+    (check.check_one_limit, 'the limit of numbers stands 2 times in the code', 'crates/least/src/lib.rt', '', 'const UNKNOWN: u64 = 1_000_001;\n'),
+    (check.check_one_limit, 'the limit of numbers stands 0 times in the code', LIMIT_CODE, 'pub const', '// pub const'),
+    (check.check_one_limit, 'PLANNER_MOST_NUMBER is not the limit', 'include/planner.h', '1000000', '65535'),
     (check.check_verdicts, 'planning: no verdict', 'target/log/planning.out', None, None),
     (check.check_verdicts, 'planning: no verdict', 'target/log/planning.out', 'logic=proved', 'logic=not-proved'),
     (check.check_verdicts, 'planning: the verdict names an assumption, axioms', 'target/log/planning.out', 'sum=0', 'axioms=1 sum=0'),

@@ -10,7 +10,7 @@ PAGES = {
         'crates/answers/specs/Choice.antt', 'crates/examples/specs/Table.antt', 'crates/examples/specs/Files.antt', 'crates/examples/specs/WrongPlanners.antt',
         'crates/candidates/specs/Statement.antt', 'crates/plan_file/specs/Statement.antt', 'crates/refusal/specs/FirstNo.antt', 'crates/least/specs/Each.antt',
     ],
-    REQUESTS: ['crates/scan/specs/Line.antt', 'crates/scan/specs/Scan.antt'],
+    REQUESTS: ['crates/scan/specs/Line.antt', 'crates/scan/specs/Scan.antt', 'crates/ranges/specs/Ranges.antt'],
 }
 NAMED = {
     DEMANDS: {
@@ -18,10 +18,10 @@ NAMED = {
         'crates/load/specs/Weigh.antt': ['RowFits'],
         'crates/supply/specs/Signed.antt': ['larger', 'ceilOf', 'signedRound', 'signedAt', 'signedSupply'],
     },
-    REQUESTS: {'crates/text/specs/Bytes.antt': ['Line', 'intoLine', 'linesOf']},
+    REQUESTS: {'crates/text/specs/Bytes.antt': ['Line', 'intoLine', 'linesOf'], 'crates/refusal/specs/Limits.antt': ['numberLimit']},
 }
 # The crates with the proofs of what the pages say.
-PROVERS = ['answers', 'planner', 'examples', 'scan']
+PROVERS = ['answers', 'planner', 'examples', 'scan', 'ranges']
 
 
 def without_comments(text, antt):

@@ -11,7 +11,8 @@
 #include <stddef.h>
 #include <stdint.h>
 
-enum { PLANNER_MOST_PAIRS = 121, PLANNER_MOST_ROWS = 16, PLANNER_ROOM = 8192 };
+/* PLANNER_MOST_NUMBER is the greatest number of a file, and the greatest period, budget, holding time and time set by hand. */
+enum { PLANNER_MOST_NUMBER = 1000000, PLANNER_MOST_PAIRS = 121, PLANNER_MOST_ROWS = 16, PLANNER_ROOM = 8192 };
 
 /* The plan of a file: its listing stands in the first `written` bytes of `out`, the others stay as they were. PLANNER_ROOM bytes are enough. */
 typedef struct {

@@ -7,7 +7,9 @@ pub const MOST_PARTS: usize = 16;
 pub const MOST_TASKS: usize = 16;
 pub const MOST_LOCKS: usize = 8;
 pub const LONGEST_NAME: usize = 8;
-pub const LARGEST_NUMBER: u64 = 65_535;
+pub const LARGEST_NUMBER: u64 = 1_000_000;
+/// Digits of the largest number.
+const MOST_DIGITS: usize = 7;
 
 /// A name: that stretch of the file.
 #[derive(Clone, Copy, Debug)]
@@ -166,7 +168,7 @@ impl<'f> Line<'f> {
     /// A number field. Question 7.
     fn number(&self, index: usize) -> Result<u64, u32> {
         let digits = self.field(index);
-        if !(1..=5).contains(&digits.len()) || digits[0] == b'0' {
+        if !(1..=MOST_DIGITS).contains(&digits.len()) || digits[0] == b'0' {
             return Err(7);
         }
         let mut value = 0;

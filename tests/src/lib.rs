@@ -7,6 +7,7 @@
 //! - [`listing`]: the printed bytes
 //! - [`literal`]: all of it again by brute force, for small files
 //! - [`random`]: made-up plan files
+//! - [`edges`]: numbers at and past the largest one
 //! - [`timing`]: nanoseconds a run
 //! - [`programs`]: the programs under crates/ and what each must print
 //! - [`by_hand`]: the numbers that the test program of that name hands over
@@ -17,6 +18,7 @@
 use std::ops::Range;
 
 pub mod by_hand;
+pub mod edges;
 pub mod file;
 #[cfg(feature = "library")]
 pub mod library;

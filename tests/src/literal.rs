@@ -9,6 +9,9 @@ use std::collections::BTreeSet;
 
 pub type Refusal = (u32, usize);
 
+/// Numbers of a file and numbers set by hand go up to here.
+const MOST: i64 = 1_000_000;
+
 #[derive(Clone, Debug, PartialEq, Eq)]
 pub struct Part {
     pub name: String,
@@ -100,7 +103,7 @@ fn with<'r>(word: &str, records: &'r [Vec<String>]) -> Vec<&'r Vec<String>> {
 
 fn is_number(text: &str) -> bool {
     text.parse::<i64>()
-        .is_ok_and(|k| (1..=65_535).contains(&k) && k.to_string() == text)
+        .is_ok_and(|k| (1..=MOST).contains(&k) && k.to_string() == text)
 }
 
 /// The number of a field that question 7 has let through.
@@ -409,7 +412,7 @@ pub fn weigh(rows: &[Row]) -> Result<(Vec<Fraction>, usize, Fraction), Refusal> 
         return Err((12, 0));
     }
     for (s, &(p, q, x)) in (1..).zip(rows) {
-        if !(1..=65_535).contains(&p) || !(1..=p).contains(&q) || !(0..=65_535).contains(&x) {
+        if !(1..=MOST).contains(&p) || !(1..=p).contains(&q) || !(0..=MOST).contains(&x) {
             return Err((12, s));
         }
     }

@@ -228,7 +228,7 @@ pub fn releases(time: u64, separation: u64) -> u64 {
     }
 }
 
-/// What the tasks ask for in `time` ticks.
+/// What the tasks ask for in `time` ticks: of each less than `time` and its separation together.
 fn demand(tasks: &[Task], time: u64) -> u64 {
     tasks
         .iter()

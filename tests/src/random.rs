@@ -97,6 +97,30 @@ impl Sizes {
             utilisation: 3..=40,
         }
     }
+
+    /// Jobs of up to an hour: separations and deadlines up to the largest number.
+    pub fn posters() -> Self {
+        Sizes {
+            parts: 1..=4,
+            tasks: 1..=6,
+            locks: 0..=4,
+            period: 500..=60_000,
+            separation: 4..=80,
+            utilisation: 3..=50,
+        }
+    }
+
+    /// Such jobs under short periods, few enough for brute force over all budgets and times.
+    pub fn few_posters() -> Self {
+        Sizes {
+            parts: 1..=2,
+            tasks: 1..=2,
+            locks: 0..=1,
+            period: 3..=8,
+            separation: 9_000..=200_000,
+            utilisation: 10..=90,
+        }
+    }
 }
 
 /// A readable plan file.
@@ -252,8 +276,8 @@ pub fn damaged(random: &mut Random, file: &[u8]) -> Vec<u8> {
     bytes
 }
 
-/// The file with numbers at or near the limits: periods of a tick or of 65,535, deadlines at the
-/// execution time, locks held all the time. Readable if the file was.
+/// The file with numbers at or near the limits: periods of a tick or of 1,000,000, deadlines at
+/// the execution time, locks held all the time. Readable if the file was.
 pub fn extreme(random: &mut Random, file: &[u8]) -> Vec<u8> {
     let text = String::from_utf8_lossy(file);
     let mut out = String::new();
@@ -290,12 +314,14 @@ pub fn extreme(random: &mut Random, file: &[u8]) -> Vec<u8> {
 }
 
 fn near_a_limit(random: &mut Random, number: u64) -> u64 {
-    match random.index(12) {
+    match random.index(16) {
         0 => 1,
         1 => 2,
         2 => LARGEST_NUMBER,
         3 => LARGEST_NUMBER - 1,
-        4 => (number * 7).min(LARGEST_NUMBER),
+        // The largest number that 16 bits hold, and the next.
+        4 => random.within(65_535..=65_536),
+        5 => (number * 7).min(LARGEST_NUMBER),
         _ => number,
     }
 }
@@ -373,16 +399,28 @@ fn odd_byte(random: &mut Random) -> u8 {
 
 /// A number that is too great, or close to it, or badly written.
 fn odd_number(random: &mut Random) -> Vec<u8> {
-    match random.within(0..=8) {
-        0 => b"65535".to_vec(),
-        1 => b"65536".to_vec(),
-        2 => b"0".to_vec(),
-        3 => b"010".to_vec(),
-        4 => b"4294967297".to_vec(),
-        5 => b"18446744073709551617".to_vec(),
-        6 => b"+5".to_vec(),
-        7 => vec![b'9'; random.index(LONGEST_FILE + 2)],
-        _ => random.number().to_string().into_bytes(),
+    const OFTEN: &[&[u8]] = &[
+        b"65535",
+        b"65536",
+        b"999999",
+        b"1000000",
+        b"1000001",
+        b"9999999",
+        b"10000000",
+        b"0",
+        b"010",
+        b"0999999",
+        b"01000000",
+        b"4294967297",
+        b"18446744073709551617",
+        b"+5",
+    ];
+    match random.index(OFTEN.len() + 4) {
+        0 => vec![b'9'; random.index(LONGEST_FILE + 2)],
+        1 => random.number().to_string().into_bytes(),
+        2 => random.within(1_000_000..=9_999_999).to_string().into(),
+        3 => random.within(10_000_000..=99_999_999).to_string().into(),
+        other => OFTEN[other - 4].to_vec(),
     }
 }
 
@@ -391,7 +429,11 @@ pub fn rows(random: &mut Random, most: u64, longest: u64) -> Vec<(u64, u64, u64)
     let count = random.within(1..=most);
     let mut rows = Vec::new();
     for _ in 0..count {
-        let period = random.within(1..=longest);
+        let period = if random.once_in(8) {
+            longest - random.within(0..=1)
+        } else {
+            random.within(1..=longest)
+        };
         let budget = random.within(1..=(period / count).max(1));
         let holding = if random.once_in(3) {
             0
@@ -402,11 +444,12 @@ pub fn rows(random: &mut Random, most: u64, longest: u64) -> Vec<(u64, u64, u64)
     }
     if random.once_in(20) {
         let row = random.index(rows.len());
-        rows[row] = match random.within(0..=3) {
+        rows[row] = match random.within(0..=4) {
             0 => (0, 0, 0),
             1 => (9, 10, 0),
             2 => (9, 0, 0),
-            _ => (9, 9, 65_536),
+            3 => (LARGEST_NUMBER + 1, 9, 0),
+            _ => (9, 9, LARGEST_NUMBER + 1),
         };
     }
     rows

@@ -106,7 +106,8 @@ fn blocking(rows: &[Row], index: usize) -> u64 {
     below.max().unwrap_or(0)
 }
 
-/// L(t) of one row, for t up to its period.
+/// L(t) of one row, for t up to its period. Fifteen rows (1,1,1000000) above it ask for the most by
+/// 1,000,000: L(t) is below 2^44, and its product with a time, below 2^20, fits 64 bits.
 struct Demand<'r> {
     /// The row's own sum and its blocking.
     own: u64,

@@ -34,18 +34,26 @@ pub fn files() -> io::Result<Vec<BenchFile>> {
     Ok(files)
 }
 
-const ROUNDS: u32 = 3;
 const ROUND: Duration = Duration::from_millis(2);
-const DEPTHS: usize = 24;
+/// How many rounds there are, and at how many depths.
+const ROUNDS: (u32, usize) = (3, 24);
+/// The same for a run that takes at least `SLOW`.
+const SLOW_ROUNDS: (u32, usize) = (1, 5);
+const SLOW: Duration = Duration::from_millis(40);
 
 /// Nanoseconds a run: the median over several depths of the stack, of the best round at each. Where
-/// on the stack a run has its structs can make some per cent of its time.
+/// on the stack a run has its structs can make some per cent of its time. Slow runs get fewer
+/// rounds and depths, else the files at the limit of numbers would take minutes.
 pub fn time_of<T>(mut run: impl FnMut() -> T) -> u128 {
-    let mut times: Vec<u128> = (0..DEPTHS)
-        .map(|depth| deeper(depth, &mut || best_round(&mut run)))
+    let begin = Instant::now();
+    black_box(run());
+    let slow = begin.elapsed() >= SLOW;
+    let (rounds, depths) = if slow { SLOW_ROUNDS } else { ROUNDS };
+    let mut times: Vec<u128> = (0..depths)
+        .map(|depth| deeper(depth, &mut || best_round(rounds, &mut run)))
         .collect();
     times.sort();
-    times[DEPTHS / 2]
+    times[depths / 2]
 }
 
 /// Calls it so many frames deeper in the stack.
@@ -61,9 +69,9 @@ fn deeper(frames: usize, call: &mut dyn FnMut() -> u128) -> u128 {
 }
 
 /// Nanoseconds a run: several rounds of at least `ROUND` each, the best one counts.
-fn best_round<T>(run: &mut impl FnMut() -> T) -> u128 {
+fn best_round<T>(rounds: u32, run: &mut impl FnMut() -> T) -> u128 {
     let mut best = u128::MAX;
-    for _ in 0..ROUNDS {
+    for _ in 0..rounds {
         let mut runs = 0;
         let begin = Instant::now();
         while runs == 0 || begin.elapsed() < ROUND {

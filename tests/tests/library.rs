@@ -4,6 +4,8 @@
 
 use std::env;
 
+use reference::edges::{self, BY_HAND, FIELDS, GOOD};
+use reference::file::LARGEST_NUMBER;
 use reference::random::{self, Random, Sizes};
 use reference::system::Row;
 use reference::{
@@ -68,13 +70,19 @@ fn same_in_every_room(file: &[u8]) {
     }
 }
 
+/// The plan files of the cases.
+fn cases() -> Vec<Vec<u8>> {
+    let cases = programs::CASES.files().expect("the cases").into_iter();
+    let files: Vec<Vec<u8>> = cases.map(|case| case.bytes).collect();
+    assert!(files.len() > 256, "{} files", files.len());
+    files
+}
+
 /// The plan files of the cases and of bench/.
 fn files() -> Vec<Vec<u8>> {
-    let cases = programs::CASES.files().expect("the cases").into_iter();
-    let mut files: Vec<Vec<u8>> = cases.map(|case| case.bytes).collect();
     let bench = timing::files().expect("the bench files").into_iter();
+    let mut files = cases();
     files.extend(bench.map(|file| file.bytes));
-    assert!(files.len() > 256, "{} files", files.len());
     files
 }
 
@@ -91,6 +99,7 @@ fn made_up(random: &mut Random, rounds: usize) -> Vec<Vec<u8>> {
         Sizes::two_parts(),
         Sizes::three_parts(),
         Sizes::full(),
+        Sizes::posters(),
     ];
     let mut files = Vec::new();
     for round in 0..rounds {
@@ -122,7 +131,7 @@ fn plans_of_made_up_files() {
 #[test]
 fn plans_in_every_room() {
     let random = &mut Random::new(5);
-    for file in files()
+    for file in cases()
         .iter()
         .step_by(8)
         .chain(&made_up(random, rounds(40)))
@@ -147,19 +156,24 @@ fn candidates_of_made_up_files() {
     }
 }
 
+/// The same weighing or the same refusal, by value and from a slice.
+fn same_weighing(rows: &[Row]) {
+    assert_eq!(library::weigh(rows), weigh(rows), "{rows:?}");
+    assert_eq!(library::weigh_by_value(rows), weigh(rows), "{rows:?}");
+}
+
 #[test]
 fn rows_set_by_hand() {
     let random = &mut Random::new(6);
-    let edges = [0, 1, 2, 65_534, 65_535, 65_536, 1 << 32, u64::MAX];
     for _ in 0..rounds(20_000) {
-        let longest = [20, 1000, 65_535][random.index(3)];
+        let longest = [20, 1000, 65_535, LARGEST_NUMBER][random.index(4)];
         let mut rows: Vec<Row> = random::rows(random, 16, longest)
             .into_iter()
             .map(Row::from)
             .collect();
         if random.once_in(4) && !rows.is_empty() {
             let place = random.index(rows.len());
-            let edge = edges[random.index(edges.len())];
+            let edge = BY_HAND[random.index(BY_HAND.len())];
             match random.index(3) {
                 0 => rows[place].period = edge,
                 1 => rows[place].budget = edge,
@@ -169,27 +183,53 @@ fn rows_set_by_hand() {
         if random.once_in(50) {
             rows.resize(random.index(40), rows[0]);
         }
-        assert_eq!(library::weigh(&rows), weigh(&rows), "{rows:?}");
-        assert_eq!(library::weigh_by_value(&rows), weigh(&rows), "{rows:?}");
+        same_weighing(&rows);
     }
 }
 
 #[test]
 fn supplies_at_and_past_the_limits() {
     let random = &mut Random::new(3);
-    let edges = [0, 1, 2, 65_534, 65_535, 65_536, 1 << 20, 1 << 32, u64::MAX];
-    for p in edges {
-        for q in edges {
-            for t in edges {
-                assert_eq!(library::supply(p, q, t), supply_answer(p, q, t));
-            }
+    for _ in 0..rounds(200_000) {
+        let longest = [1000, 65_535, LARGEST_NUMBER][random.index(3)];
+        let p = random.within(1..=longest);
+        let q = random.within(0..=p);
+        let t = random.within(0..=longest + 1);
+        assert_eq!(library::supply(p, q, t), supply_answer(p, q, t));
+    }
+}
+
+#[test]
+fn m103_every_field_at_and_past_the_largest_number() {
+    let random = &mut Random::new(7);
+    for (file, _) in FIELDS {
+        for digits in GOOD.map(String::from).into_iter().chain(edges::bad()) {
+            let file = edges::file_with(file, &digits);
+            same_in_every_room(&file);
+            same_candidates(random, &file);
         }
     }
-    for _ in 0..rounds(200_000) {
-        let p = random.within(1..=65_535);
-        let q = random.within(0..=p);
-        let t = random.within(0..=65_536);
-        assert_eq!(library::supply(p, q, t), supply_answer(p, q, t));
+}
+
+#[test]
+fn m103_numbers_set_by_hand() {
+    for p in BY_HAND {
+        for q in BY_HAND {
+            for other in BY_HAND {
+                assert_eq!(library::supply(p, q, other), supply_answer(p, q, other));
+                let row = Row::from((p, q, other));
+                let lowest = Row::from((LARGEST_NUMBER, 1, LARGEST_NUMBER / 2));
+                let highest = Row::from((1, 1, LARGEST_NUMBER));
+                same_weighing(&[row]);
+                same_weighing(&[lowest, row]);
+                same_weighing(&[row, highest]);
+                same_weighing(&[row; 16]);
+                // The greatest L(t) that rows in range can have, if this one is.
+                let mut rows = [highest; 16];
+                rows[0] = row;
+                same_weighing(&rows);
+            }
+        }
     }
 }
 

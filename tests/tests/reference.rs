@@ -2,7 +2,8 @@
 //! readings of the paper's open places.
 
 use reference::by_hand::{SUPPLIES, WEIGHINGS};
-use reference::file::{self, Part, LONGEST_FILE};
+use reference::edges::{self, BY_HAND, FIELDS, GOOD};
+use reference::file::{self, Part, LARGEST_NUMBER, LONGEST_FILE};
 use reference::local::{self, Local, Pair};
 use reference::random::{self, Random, Sizes};
 use reference::system::{self, Candidates, Row, Weighing};
@@ -144,7 +145,8 @@ fn damaged_files_are_read_alike() {
     for round in 0..6000 {
         let sizes = match round % 40 {
             0 => Sizes::full(),
-            1..=10 => Sizes::three_parts(),
+            1..=5 => Sizes::posters(),
+            6..=15 => Sizes::three_parts(),
             _ => Sizes::two_parts(),
         };
         let file = random::valid(&mut random, &sizes);
@@ -205,6 +207,7 @@ fn small_plans_equal_brute_force() {
     let mut seen = Seen::default();
     for round in 0..3000 {
         let sizes = match round % 6 {
+            0 if round % 120 == 0 => Sizes::few_posters(),
             0 => Sizes::one_part(),
             1 => Sizes::three_parts(),
             _ => Sizes::two_parts(),
@@ -308,8 +311,11 @@ fn weighing_equals_brute_force() {
     let mut random = Random::new(4);
     let mut seen = [0; 14];
     for round in 0..6000 {
-        let longest = [20, 100, 700][round % 3];
-        let list = random::rows(&mut random, 6, longest);
+        let (most, longest) = match round % 300 {
+            0 => (3, LARGEST_NUMBER),
+            _ => (6, [20, 100, 700][round % 3]),
+        };
+        let list = random::rows(&mut random, most, longest);
         seen[same_weighing(&list).0 as usize] += 1;
     }
     assert!(
@@ -390,12 +396,21 @@ fn supply_equals_the_papers_words() {
     }
 }
 
+/// The largest separation or period of the parts.
+fn largest_number(parts: &[Part]) -> u64 {
+    let separations = parts.iter().flat_map(|part| &part.tasks);
+    let separations = separations.map(|task| task.separation);
+    let periods = parts.iter().map(|part| part.period);
+    separations.chain(periods).max().unwrap_or(0)
+}
+
 #[test]
 fn larger_files_get_answers_that_hold() {
     let mut random = Random::new(6);
-    let mut planned = 0;
-    for _ in 0..150 {
-        let file = random::valid(&mut random, &Sizes::full());
+    let (mut planned, mut at_the_limit) = (0, 0);
+    for round in 0..300 {
+        let sizes = [Sizes::full(), Sizes::posters()];
+        let file = random::valid(&mut random, &sizes[round % 2]);
         let Ok(parts) = file::read(&file) else {
             assert!(file.len() > LONGEST_FILE);
             continue;
@@ -410,11 +425,15 @@ fn larger_files_get_answers_that_hold() {
         // A listing fits exactly from its own length on.
         if let Ok(listing) = plan(&file, PROGRAM_ROOM) {
             planned += 1;
+            at_the_limit += usize::from(largest_number(&parts) == LARGEST_NUMBER);
             assert_eq!(plan(&file, listing.len()).as_ref(), Ok(&listing));
             assert_eq!(number_and_place(&plan(&file, listing.len() - 1)), (14, 0));
         }
     }
-    assert!(planned > 10, "{planned} planned");
+    assert!(
+        planned > 60 && at_the_limit > 30,
+        "{planned} planned, {at_the_limit} of these with the largest number"
+    );
 }
 
 // ---- the examples of the paper ----
@@ -503,8 +522,8 @@ fn examples_a_to_l() {
     ); // J
     let supplies = [14, 15, 17, 24, 25].map(|time| supply_answer(10, 3, time));
     assert_eq!(supplies, [0, 1, 3, 3, 4].map(Ok)); // K
-    assert_eq!(planned(&w(&["part p 65535"])), (4, 2)); // L
-    assert_eq!(planned(&w(&["part p 65536"])), (7, 1));
+    assert_eq!(planned(&w(&["part p 1000000"])), (4, 2)); // L
+    assert_eq!(planned(&w(&["part p 1000001"])), (7, 1));
     assert_eq!(planned(&w(&["part p 010"])), (7, 1));
     assert_eq!(lossy(&printed(b"")), "refused\t4\t1\n");
 }
@@ -626,7 +645,7 @@ fn r10_well_formed_numbers() {
         "18446744073709551617",
         "+5",
         "-1",
-        "65536",
+        "1000001",
         "0",
         "05",
         "5x",
@@ -723,6 +742,145 @@ fn m102_the_longest_file_is_a_case_and_timed() {
     assert_eq!(timed.map(|file| file.bytes.len()), Some(LONGEST_FILE));
 }
 
+#[test]
+fn m103_every_field_at_and_past_the_largest_number() {
+    for (file, line) in FIELDS {
+        for digits in GOOD {
+            let file = edges::file_with(file, digits);
+            assert_eq!(same_reading(&file), (0, 0), "{}", lossy(&file));
+            // With a lock held for all of the only task's time the sum of Q and X exceeds P.
+            let answer = if line == 3 { (11, 0) } else { (0, 0) };
+            assert_eq!(planned(&file), answer, "{}", lossy(&file));
+        }
+        for digits in edges::bad() {
+            let file = edges::file_with(file, &digits);
+            assert_eq!(same_reading(&file), (7, line), "{}", lossy(&file));
+        }
+    }
+}
+
+#[test]
+fn m103_question_7_before_8_at_the_largest_number() {
+    let task = |task: &str, lock: &str| same_reading(&w(&["part p 10", task, lock, "end"]));
+    for (numbers, answer) in [
+        ("1000000 1000000 1000000", (0, 0)),
+        ("1000000 999999 999999", (0, 0)),
+        ("999999 1 1000000", (8, 2)),
+        ("1000000 1000000 999999", (8, 2)),
+        ("1000000 1000001 1", (7, 2)),
+        ("1000000 1 1000001", (7, 2)),
+        ("1000001 1000002 1000000", (7, 2)),
+    ] {
+        assert_eq!(
+            task(&format!("task t {numbers}"), "lock l 1"),
+            answer,
+            "{numbers}"
+        );
+    }
+    for (held, answer) in [("999999", (0, 0)), ("1000000", (8, 3)), ("1000001", (7, 3))] {
+        let lock = format!("lock l {held}");
+        assert_eq!(task("task t 1000000 999999 1000000", &lock), answer);
+    }
+}
+
+#[test]
+fn m103_numbers_set_by_hand() {
+    let good = |number: u64| (1..=1_000_000).contains(&number);
+    for p in BY_HAND {
+        for q in BY_HAND {
+            for other in BY_HAND {
+                let in_range = good(p) && good(q) && q <= p && (other == 0 || good(other));
+                let answer = supply_answer(p, q, other);
+                assert_eq!(answer.is_ok(), in_range, "supply of ({p},{q}) at {other}");
+                if let Ok(ticks) = answer {
+                    let slow = literal::supply(p as i64, q as i64, other as i64);
+                    assert_eq!(ticks as i64, slow, "supply of ({p},{q}) at {other}");
+                }
+                // As the only row, as the lowest of two, and as the highest.
+                let row = (p, q, other);
+                let alone = match (in_range, q.saturating_add(other) <= p) {
+                    (false, _) => (12, 1),
+                    (true, false) => (13, 1),
+                    (true, true) => (0, 0),
+                };
+                assert_eq!(unweighed(&[row]), alone, "{row:?}");
+                if alone.0 == 12 {
+                    assert_eq!(unweighed(&[row, (1, 1, 0)]), (12, 1), "{row:?}");
+                    assert_eq!(unweighed(&[(9, 9, 9), row]), (12, 2), "{row:?}");
+                }
+            }
+        }
+    }
+    assert_eq!(supply_answer(1_000_000, 1, 1_000_000), Ok(0));
+    assert_eq!(
+        number_and_place(&supply_answer(1_000_000, 1, 1_000_001)),
+        (12, 0)
+    );
+}
+
+#[test]
+fn m103_sixteen_rows_at_the_largest_number() {
+    // They fill the longest period to its last tick.
+    let rows = [(1_000_000, 31_250, 31_250); 16];
+    assert_eq!(same_weighing(&rows), (0, 0));
+    let (bounds, row, load) = weighed(&rows);
+    assert_eq!((row, load), (1, (1_000_000, 1_000_000)));
+    assert_eq!(bounds[15], (93_750, 1_000_000));
+    // A tick more is too much for the lowest.
+    let mut rows = rows;
+    rows[15].1 += 1;
+    assert_eq!(same_weighing(&rows), (13, 1));
+    // The greatest L(t) that rows in range can have.
+    let mut rows = [(1, 1, 1_000_000); 16];
+    assert_eq!(same_weighing(&rows), (13, 1));
+    rows[0] = (1_000_000, 1_000_000, 1_000_000);
+    assert_eq!(same_weighing(&rows), (13, 1));
+    assert_eq!(
+        weighed(&[(1_000_000, 1_000_000, 0)]),
+        (vec![(1_000_000, 1_000_000)], 1, (1_000_000, 1_000_000))
+    );
+}
+
+#[test]
+fn m103_plans_with_large_numbers_hold_by_brute_force() {
+    let mut random = Random::new(9);
+    let (mut planned, mut pairs) = (0, 0);
+    let cases = programs::CASES.files().expect("the cases").into_iter();
+    let cases = cases.filter(|case| case.name.starts_with("m103-"));
+    let made_up = (0..40).map(|_| random::valid(&mut random, &Sizes::posters()));
+    for file in cases.map(|case| case.bytes).chain(made_up) {
+        let Ok(parts) = file::read(&file) else {
+            continue;
+        };
+        // Brute force of sixteen parts would take too long.
+        if parts.len() > 4 {
+            continue;
+        }
+        let slow = literal::read(&file).expect("a readable file");
+        let mut lists = Vec::new();
+        for (part, slow) in parts.iter().zip(&slow) {
+            let list = local::candidates(part);
+            for (q, x) in signed(&list) {
+                assert!(shown_for(slow, q, x), "({q},{x}) of\n{}", lossy(&file));
+                pairs += 1;
+            }
+            lists.push(Candidates {
+                period: part.period,
+                pairs: list,
+            });
+        }
+        if let Some((rows, weighing)) = system::select(&lists) {
+            let slow = literal::load(&signed_rows(&rows));
+            assert_eq!(Some(signed_weighing(&weighing)), slow, "{}", lossy(&file));
+            planned += 1;
+        }
+    }
+    assert!(
+        planned > 20 && pairs > 100,
+        "{planned} planned, {pairs} pairs"
+    );
+}
+
 // ---- readings of the numbers ----
 
 #[test]
@@ -810,15 +968,15 @@ fn n2_n7_n8_permission_and_least_budgets_do_not_show() {
         }
         // N7: the ceilings shown for a kept pair have its X and its Q as least budget.
         for (q, x) in part.kept() {
-            let shown = part.ceilings_shown(x);
-            assert_eq!(part.holding_time(&shown), Some(x), "{}", lossy(&file));
-            assert!(
-                part.passes(&shown, q) && !part.passes(&shown, q - 1),
-                "{}",
-                lossy(&file)
-            );
+            assert!(shown_for(&part, q, x), "({q},{x}) of\n{}", lossy(&file));
         }
     }
+}
+
+/// Have the ceilings shown for a pair its X, and its Q as least budget?
+fn shown_for(part: &literal::Part, q: i64, x: i64) -> bool {
+    let shown = part.ceilings_shown(x);
+    part.holding_time(&shown) == Some(x) && part.passes(&shown, q) && !part.passes(&shown, q - 1)
 }
 
 #[test]
@@ -894,12 +1052,12 @@ fn b4_the_least_budget_by_algorithm_1() {
 
 #[test]
 fn n10_weighing_in_its_order_of_questions() {
-    assert_eq!(unweighed(&[(10, 1, 65_535)]), (13, 1));
+    assert_eq!(unweighed(&[(10, 1, 1_000_000)]), (13, 1));
     assert_eq!(unweighed(&[(10, 10, 10), (10, 0, 0)]), (12, 2));
     assert_eq!(unweighed(&[(0, 0, 0); 17]), (12, 0));
     assert_eq!(unweighed(&[]), (12, 0));
     assert_eq!(unweighed(&[(10, 0, 0)]), (12, 1));
-    assert_eq!(unweighed(&[(65_535, 1, 0), (65_536, 1, 0)]), (12, 2));
+    assert_eq!(unweighed(&[(1_000_000, 1, 0), (1_000_001, 1, 0)]), (12, 2));
     assert_eq!(unweighed(&[(u64::MAX, u64::MAX, u64::MAX)]), (12, 1));
 }
 
@@ -907,12 +1065,15 @@ fn n10_weighing_in_its_order_of_questions() {
 fn n11_supply_at_0() {
     assert_eq!(supply_answer(10, 3, 0), Ok(0));
     assert_eq!(supply_answer(10, 10, 0), Ok(0));
-    assert_eq!(supply_answer(65_535, 65_535, 65_535), Ok(65_535));
+    assert_eq!(
+        supply_answer(1_000_000, 1_000_000, 1_000_000),
+        Ok(1_000_000)
+    );
     for (period, budget, time) in [
         (10, 0, 0),
         (10, 11, 0),
-        (65_536, 1, 0),
-        (9, 9, 65_536),
+        (1_000_001, 1, 0),
+        (9, 9, 1_000_001),
         (0, 0, 0),
     ] {
         assert_eq!(

@@ -94,16 +94,38 @@ fn supplies_figures_of_004() {
 
 // At the limits and past them.
 fn supplies_limits() {
-    print_supply(65535, 1, 65535);
-    print_supply(65535, 65535, 65535);
     print_supply(1, 1, 0);
-    print_supply(1, 1, 65535);
+    print_supply(1, 1, 999999);
+    print_supply(1, 1, 1000000);
+    print_supply(1, 1, 1000001);
+    print_supply(999999, 1, 999999);
+    print_supply(999999, 999999, 1000000);
+    print_supply(999999, 1000000, 1);
+    print_supply(1000000, 1, 999999);
+    print_supply(1000000, 1, 1000000);
+    print_supply(1000000, 1, 1000001);
+    print_supply(1000000, 2, 999999);
+    print_supply(1000000, 2, 1000000);
+    print_supply(1000000, 500001, 1000000);
+    print_supply(1000000, 999999, 999999);
+    print_supply(1000000, 999999, 1000000);
+    print_supply(1000000, 1000000, 999999);
+    print_supply(1000000, 1000000, 1000000);
+    print_supply(1000000, 1000000, 1000001);
+    print_supply(1000000, 1000001, 1);
+    print_supply(1000001, 1, 1);
+    print_supply(1000001, 1000001, 1000001);
     print_supply(10, 0, 5);
     print_supply(10, 11, 5);
     print_supply(0, 0, 0);
-    print_supply(65536, 1, 1);
-    print_supply(65535, 1, 65536);
+}
+
+// What 16 bits hold is no limit; past what 32 and 64 bits hold.
+fn supplies_bits() {
+    print_supply(65535, 65535, 65535);
     print_supply(65536, 65536, 65536);
+    print_supply(4294967306, 3, 15);
+    print_supply(10, 3, 4294967311);
     print_supply(
         18446744073709551615,
         18446744073709551615,
@@ -273,14 +295,48 @@ fn weighings_readings() {
 
 // At the limits and past them.
 fn weighings_limits() {
-    weigh1(row(10, 1, 65535));
+    weigh1(row(10, 1, 1000000));
+    weigh1(row(10, 1, 1000001));
     weigh2(row(10, 10, 10), row(10, 0, 0));
     weigh1(row(10, 0, 0));
-    weigh1(row(65535, 65535, 0));
-    weigh1(row(65535, 1, 65535));
-    weigh1(row(65536, 1, 0));
-    weigh1(row(10, 1, 65536));
     weigh1(row(10, 11, 0));
+    weigh1(row(999999, 999999, 0));
+    weigh1(row(999999, 1000000, 0));
+    weigh1(row(1000000, 1, 999998));
+    weigh1(row(1000000, 1, 999999));
+    weigh1(row(1000000, 1, 1000000));
+    weigh1(row(1000000, 1, 1000001));
+    weigh1(row(1000000, 999999, 0));
+    weigh1(row(1000000, 1000000, 0));
+    weigh1(row(1000000, 1000001, 0));
+    weigh1(row(1000001, 1, 0));
+    weigh1(row(1000001, 1000001, 0));
+    weigh2(row(1000000, 1, 0), row(1000001, 1, 0));
+    weigh1(row(65536, 65536, 0));
+    weigh1(row(4294967306, 3, 0));
+    weigh1(row(10, 3, 4294967296));
+    weigh1(row(
+        18446744073709551615,
+        18446744073709551615,
+        18446744073709551615,
+    ));
+}
+
+// The lowest row, and fifteen alike above it.
+fn weigh16(lowest: Row, above: Row) {
+    let mut rows = [above; 16];
+    rows[0] = lowest;
+    print_weighing(Rows { rows, count: 16 });
+}
+
+// Sixteen rows: the longest period filled to its last tick, and a tick more; the greatest L(t). Then no row, and seventeen.
+fn weighings_sixteen() {
+    let fair = row(1000000, 31250, 31250);
+    weigh16(fair, fair);
+    weigh16(row(1000000, 31251, 31250), fair);
+    let short = row(1, 1, 1000000);
+    weigh16(short, short);
+    weigh16(row(1000000, 1000000, 1000000), short);
     let none = row(0, 0, 0);
     print_weighing(rows_of(none, none, none, none, 0));
     print_weighing(rows_of(none, none, none, none, 17));
@@ -292,9 +348,11 @@ fn main() {
     supplies_figures_of_001();
     supplies_figures_of_004();
     supplies_limits();
+    supplies_bits();
     weighings_figures_of_001();
     weighings_figures_of_000();
     weighings_figures_of_004();
     weighings_readings();
     weighings_limits();
+    weighings_sixteen();
 }

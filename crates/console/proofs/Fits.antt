@@ -1,4 +1,4 @@
--- A listing that is answered fits the bytes that are lent, and 3,690 bytes are enough for any listing; so the program's 8,192 are.
+-- A listing that is answered fits the bytes that are lent, and 3,470 bytes are enough for any listing; so the program's 8,192 are.
 -- Assumes nothing.
 use Prim.Native.Nat.{ℕ, _≤_}
 use native.Mathlib.Omega.{arith}
@@ -14,6 +14,7 @@ use Rattle.plan_file.specs.Above.{FilePart}
 use Rattle.plan_file.specs.Reading.{readFile}
 use Rattle.plan_file.proofs.Fine.{read-fine, read-few}
 use Rattle.plan_file.proofs.Refusals.{read-refused-to-nine}
+use Rattle.listing.proofs.Lengths.{listingLimit}
 use Rattle.answers.specs.Answers.{planOf}
 use Rattle.planning.proofs.Answering.{plan-unread}
 use Rattle.planner.specs.Demand3.{NoneToPlan, Demanded}
@@ -31,7 +32,7 @@ none-to-11 : {ps : List FilePart} {r : Refusal} → NoneToPlan ps r → refusalN
 none-to-11 (ten n) = omega arith
 none-to-11 (eleven each never) = omega arith
 
-pub enough-room : (room : ℕ) → 3690 ≤ room → (s : List ℕ) → planOf s room ≡ refused NoRoom → ⊥
+pub enough-room : (room : ℕ) → listingLimit ≤ room → (s : List ℕ) → planOf s room ≡ refused NoRoom → ⊥
 enough-room room h s e = go (readFile s) refl
   where
     read : (ps : List FilePart) → readFile s ≡ answered ps → (a : Answer (List ℕ)) → a ≡ refused NoRoom → Demanded ps room a → ⊥

@@ -1,7 +1,7 @@
 -- The demand of columns, place by place, and of a list.
 --   demandOver period cost xs t == Σ ⌈t/P⌉×C over the elements of a list, each with its period and its cost
 -- Assumes nothing.
-use Prim.Native.Nat.{ℕ, zero, suc, _+_, _-_, _*_, _^_, _≤_, _<_}
+use Prim.Native.Nat.{ℕ, zero, suc, _+_, _-_, _*_, _≤_, _<_}
 use native.Mathlib.Nat.{le-trans, mul-le-mul-right}
 use native.Mathlib.Omega.{arith}
 use native.Mathlib.Decide.{decLt}
@@ -12,7 +12,8 @@ use lib.Seq.{drop-cons}
 use Rattle.least.specs.Round.{ceilDiv}
 use Rattle.least.specs.Lists.{sum, countFrom}
 use Rattle.least.proofs.Round.{ceil-le, ceil-mono, product}
-use Rattle.least.proofs.Sums.{sum-mono}
+use Rattle.least.proofs.Lists.{count-from}
+use Rattle.least.proofs.Sums.{sum-mono, sum-most, length-count}
 use Rattle.refusal.specs.Limits.{numberLimit}
 use Rattle.demand.specs.Demand.{demandFrom, costLimit, demandLimit, FineDemand}
 
@@ -29,16 +30,11 @@ module _ (periods costs : List ℕ) (n : ℕ) where
     each-most : (k : ℕ) → k < n → ceilDiv t (getD periods k 0) * getD costs k 0 ≤ numberLimit * costLimit
     each-most k h = product numberLimit costLimit (le-trans (ceil-le t (getD periods k 0) (fine .fine .some k h)) l) (fine .most k h)
 
-    few-most : (d k : ℕ) → n ≤ k + d → demandFrom periods costs n k t ≤ d * (numberLimit * costLimit)
-    few-most zero k h = omega (arith, demand-none k t (omega arith))
-    few-most (suc d) k h = go (decLt k n) (few-most d (suc k) (omega arith))
-      where
-        go : Dec (k < n) → demandFrom periods costs n (suc k) t ≤ d * (numberLimit * costLimit) → demandFrom periods costs n k t ≤ suc d * (numberLimit * costLimit)
-        go (yes q) ih = omega (arith, demand-next k t q, each-most k q)
-        go (no q) ih = omega (arith, demand-none k t (omega arith))
-
     pub demand-most : (k : ℕ) → demandFrom periods costs n k t ≤ demandLimit
-    demand-most k = omega (arith, few-most 16 k (omega (arith, fine .fine .few)))
+    unfolding demandFrom
+    demand-most k =
+        let most = sum-most (λ j. ceilDiv t (getD periods j 0) * getD costs j 0) (numberLimit * costLimit) (countFrom k (n - k)) (λ j m. each-most j (omega (arith, count-from (n - k) k j m))) in
+        omega (arith, most, length-count (n - k) k, fine .fine .few)
 
   -- if each comes as often in e ticks as in t, they ask for the same
   module _ (s t e : ℕ) (same : (k : ℕ) → s ≤ k → k < n → ceilDiv e (getD periods k 0) ≡ ceilDiv t (getD periods k 0)) where

@@ -6,7 +6,7 @@
 --   costLimit   == the greatest cost: Q + X of a row; a task's C is less
 --   demandLimit == the greatest demand in a time within the limit of numbers: sixteen costs in every tick of it
 -- Assumes nothing.
-use Prim.Native.Nat.{ℕ, _-_, _*_, _^_, _≤_, _<_}
+use Prim.Native.Nat.{ℕ, _-_, _*_, _≤_, _<_}
 use mathlib.Core.Path.{_≡_}
 use mathlib.Core.List.{List, map}
 use lib.ListN.{getD}

@@ -99,8 +99,8 @@ table =
     ∷ at "K" (supplies 10 3 17 3)
     ∷ at "K" (supplies 10 3 24 3)
     ∷ at "K" (supplies 10 3 25 4)
-    ∷ at "L" (prints (everyTicks "65535") listingL)
-    ∷ at "L" (refuses (everyTicks "65536") 7 2)
+    ∷ at "L" (prints (everyTicks "1000000") listingL)
+    ∷ at "L" (refuses (everyTicks "1000001") 7 2)
     ∷ at "L" (refuses (everyTicks "010") 7 2)
     ∷ []
 

@@ -1,4 +1,4 @@
--- What a well-formed number and a well-formed name are, in the paper's words; and that every number from 1 to 65,535 is well formed as it is printed.
+-- What a well-formed number and a well-formed name are, in the paper's words; and that every number from 1 to 1,000,000 is well formed as it is printed.
 -- Assumes nothing.
 use Prim.Native.Nat.{ℕ, _≤_}
 use native.Mathlib.Omega.{arith}
@@ -16,7 +16,7 @@ use Rattle.text.specs.Decimal.{isDigit, valueOf, digitsOf}
 use Rattle.text.proofs.Decimal.{FirstDigit, value-digits, digits-digits, digits-first}
 use Rattle.fields.specs.Fields.{isNameByte, isName, leadingZero, isNumber}
 
--- a number of a file: digits, without leading zero, from 1 to 65,535
+-- a number of a file: digits, without leading zero, from 1 to 1,000,000
 pub record Number (bs : List ℕ) : Type 0 where
   pub digits : every isDigit bs ≡ true
   pub plain : leadingZero bs ≡ false

@@ -1,6 +1,6 @@
 -- What the bytes of a field may be.
 --   isName bs    == a name is 1 to 8 bytes from a–z and 0–9
---   isNumber bs  == a number is 1 to 65,535 without leading zero
+--   isNumber bs  == a number is 1 to 1,000,000 without leading zero
 --   numberIn bs  == a number field: its value, or that it is malformed
 -- Assumes nothing.
 use Prim.Native.Nat.{ℕ}

@@ -1,5 +1,5 @@
 -- Weighing rows that were set by hand: questions 12 and 13, then every row's bound and the load.
---   RowFits r    == 1 ≤ Q ≤ P ≤ 65,535 and X ≤ 65,535
+--   RowFits r    == 1 ≤ Q ≤ P ≤ 1,000,000 and X ≤ 1,000,000
 --   rowInRange r == its test
 --   weighQuestions rows == questions 12 (0 for a wrong row count, else the first bad row) and 13 (first row without a time t)
 --   weighOf rows == the answer, for every list of rows

@@ -1,7 +1,7 @@
 -- The names of a readable file are short, and its numbers and counts in range, by questions 5 to 9.
 --   FineFileLock C l == of a lock l of a task with the cost C: 1 ≤ c ≤ C
---   FineFileTask t   == 1 ≤ C ≤ D ≤ T ≤ 65,535, and so of its locks
---   FineFilePart p   == 1 ≤ P ≤ 65,535, at most 16 tasks and 8 lock names, names of at most 8 bytes, and so of its tasks
+--   FineFileTask t   == 1 ≤ C ≤ D ≤ T ≤ 1,000,000, and so of its locks
+--   FineFilePart p   == 1 ≤ P ≤ 1,000,000, at most 16 tasks and 8 lock names, names of at most 8 bytes, and so of its tasks
 -- Assumes nothing.
 use Prim.Native.Nat.{ℕ, suc, _≤_}
 use native.Mathlib.Omega.{arith}

@@ -1,4 +1,4 @@
--- What is printed of a readable file is short: 3,690 bytes at most.
+-- What is printed of a readable file is short: 3,470 bytes at most.
 -- Assumes nothing.
 use Prim.Native.Nat.{ℕ, suc, _+_, _≤_, _<_}
 use native.Mathlib.Omega.{arith}
@@ -24,7 +24,7 @@ use Rattle.plan_file.specs.Above.{FilePart, lockNames}
 use Rattle.plan_file.specs.Numbers.{lockCount, taskIn, tasksIn}
 use Rattle.plan_file.proofs.Fine.{FineFilePart, AllFine}
 use Rattle.listing.specs.Listing.{Ceiling, Share, ceilingsUnder}
-use Rattle.listing.proofs.Lengths.{ShortCeiling, ShortShare, listing-most}
+use Rattle.listing.proofs.Lengths.{listingLimit, ShortCeiling, ShortShare, listing-most}
 use Rattle.planning.proofs.Weighed.{deadline-most}
 use Rattle.planner.specs.Demand3.{printedRows, shownFor, PrintedShare, Printed}
 
@@ -110,5 +110,5 @@ module _ {ps : List FilePart} {text : List ℕ} (fine : AllFine ps) (p : Printed
       let b = boundsOf-small numberLimit (printedRows (p .shares)) rows-served (s .bound) (subst (List·Memᴰ (s .bound)) (p .bounds) (Memᴰ·map (λ k. k .bound) m)) in
       share-short (q .0) (fine (q .0) (q .1)) s (q .2) (b .0) (b .1)
 
-  pub printed-most : length ps ≤ partLimit → length text ≤ 3690
+  pub printed-most : length ps ≤ partLimit → length text ≤ listingLimit
   printed-most few = omega (arith, ap length (p .bytes), listing-most (p .shares) (omega (arith, length-equal (p .choice))) shares-short)

@@ -2,7 +2,7 @@
 --   RefusedBehind s questions r == the file s is refused with r by questions 1 to 9, or it is readable and r comes from the questions of its parts
 --   PartOf s k p     == the file s is readable, and p is its part k
 --   NotAPart s k     == the file s is readable, and k is not the number of a part
---   SupplyFits P Q t == 1 ≤ Q ≤ P ≤ 65,535 and t ≤ 65,535
+--   SupplyFits P Q t == 1 ≤ Q ≤ P ≤ 1,000,000 and t ≤ 1,000,000
 --   EveryRefusal     == in which case each operation gives each refusal
 -- Assumes nothing.
 use Prim.Native.Nat.{ℕ, _≤_, _<_}

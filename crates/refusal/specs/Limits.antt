@@ -8,7 +8,7 @@
 use Prim.Native.Nat.{ℕ}
 
 abbrev pub numberLimit : ℕ
-numberLimit = 65535
+numberLimit = 1000000
 
 abbrev pub fileLimit : ℕ
 fileLimit = 32768

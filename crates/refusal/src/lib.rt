@@ -3,7 +3,7 @@ ghost use mathlib.Core.Path.{_≡_};
 ghost use Rattle.refusal.specs.Number.{refusalNumber, refusalPlace, numberOf, placeOf};
 
 // The greatest number of a file, and of a period, a budget, a holding time or a time set by hand.
-pub const NUMBER_LIMIT: u64 = 65535;
+pub const NUMBER_LIMIT: u64 = 1000000;
 
 // A refusal by its question, with the place where the paper gives one.
 pub enum Refusal {

@@ -66,7 +66,7 @@ fn main() {
     for locks in [0, 1, 2, 4, 8] {
         line("locks", locks, Size { locks, ..size });
     }
-    for scale in [1, 4, 16, 64] {
+    for scale in [1, 4, 16, 64, 256, 1024] {
         line("numbers", scale, Size { scale, ..size });
     }
 }

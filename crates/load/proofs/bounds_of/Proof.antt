@@ -4,7 +4,7 @@ use Prim.Native.Nat.{_-_, _≤_}
 use native.Mathlib.Omega.{arith}
 use mathlib.Core.Path.{_≡_, sym, ap, _∙_}
 use borrow.Author.Needs.{needs}
-use lib.ListN.{take, getD}
+use lib.ListN.{take}
 use lib.Seq.{take-all}
 use Rattle.least.specs.Lists.{pad}
 use Rattle.refusal.specs.Limits.{numberLimit}

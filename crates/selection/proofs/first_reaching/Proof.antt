@@ -3,7 +3,6 @@
 -- Assumes nothing.
 use Prim.Native.Nat.{ℕ, _-_, _≤_, _<_}
 use mathlib.Core.Path.{_≡_, sym}
-use lib.ListN.{getD}
 use native.Mathlib.Omega.{arith}
 use Rattle.least.specs.Fraction.{_⊏_}
 use Rattle.refusal.specs.Limits.{numberLimit}
