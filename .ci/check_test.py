@@ -446,7 +446,7 @@ echo "$asked" >>"$ASKED"
 '''
 COMMANDS = [
     'rt ci', 'rt fmt --check', 'python3 .ci/check_test.py', 'python3 .ci/check.py', 'rt staticlib planner_c',
-    'cargo test --release --offline --quiet --features library --manifest-path tests/Cargo.toml', 'run ', 'program ',
+    'cargo test --offline --quiet --features library --manifest-path tests/Cargo.toml', 'run ', 'program ',
 ]
 
 

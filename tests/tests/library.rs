@@ -1,5 +1,5 @@
 //! The planner's own library against the reference: the same answer, number and place included.
-//! Seeds are fixed. `ROUNDS=20 cargo test --release --features library --test library` makes up
+//! Seeds are fixed. `ROUNDS=20 cargo test --features library --test library` makes up
 //! twenty times as many inputs.
 
 use std::env;

@@ -6,11 +6,11 @@ use native.Mathlib.Omega.{arith}
 use native.Mathlib.Decide.{decLe}
 use mathlib.Core.Path.{_≡_, refl, sym, ap, subst, _∙_}
 use mathlib.Core.Logic.{⊎-elim}
-use mathlib.Core.List.{List, _∷_, _++_, List·Memᴰ, List·Memᴰ·head, List·Memᴰ·tail, List·Memᴰ·not-nil, Memᴰ·append-left, Memᴰ·append-right, Memᴰ·eq-of-replicate}
-use lib.ListN.{length, drop, take, replicate, length-append, length-map, length-drop}
+use mathlib.Core.List.{List, _∷_, _++_, List·Memᴰ, List·Memᴰ·head, List·Memᴰ·tail, List·Memᴰ·not-nil, Memᴰ·append-left, Memᴰ·append-right}
+use lib.ListN.{length, drop, take, length-append, length-map, length-drop}
 use Rattle.least.specs.declared.Frac.{Frac}
 use Rattle.least.specs.Round.{ceilDiv}
-use Rattle.least.specs.Lists.{sum, greatest, nthOr}
+use Rattle.least.specs.Lists.{nthOr}
 use Rattle.least.proofs.Round.{ceil-least, ceil-le, ceil-pos, product}
 use Rattle.least.proofs.Lists.{nth-member}
 use Rattle.least.proofs.Members.{take-member, drop-member}
@@ -27,7 +27,6 @@ use Rattle.task_set.specs.Blocking.{Setting, blockingOf}
 use Rattle.task_set.specs.Fine.{FineTask}
 use Rattle.load.specs.declared.Row.{Row}
 use Rattle.load.specs.Load.{row, rowSum, demandOf, loadAt, boundsOf}
-use Rattle.load.specs.Weigh.{RowFits}
 use Rattle.load.proofs.Load.{boundsOf-small}
 use Rattle.plan_file.specs.Above.{FilePart, noPart, lockNames}
 use Rattle.plan_file.specs.Reading.{readFile}
@@ -45,6 +44,7 @@ use Rattle.listing.proofs.Lengths.{listingLimit}
 use Rattle.planner.proofs.Demand3.{plan-demanded}
 use Rattle.planner.proofs.LocalTest.{local-test}
 use Rattle.planner.proofs.Short.{printed-most}
+use Rattle.ranges.proofs.Reached.{need-reached, supply-reached, load-reached}
 use Rattle.ranges.specs.Ranges.{Weighable, greatestNeed, greatestLoad, GreatestValues}
 
 -- ⌈a/b⌉ × b is less than a + b
@@ -156,21 +156,6 @@ module _ (rows : List Row) (w : Weighable rows) where
       let small = boundsOf-small numberLimit rows (λ r j. let f = w .fit r j in (omega (arith, f .budget-some, f .budget-most), f .period-most)) in
       product numberLimit numberLimit (small a m .0) (small b k .1)
 
--- a row at the limit below fifteen that come in every tick
-abbrev heavy : List Row
-heavy = row numberLimit numberLimit numberLimit ∷ replicate 15 (row 1 1 numberLimit)
-
-heavy-weighable : Weighable heavy
-heavy-weighable = record { count = record { some = omega arith; few = omega arith }; fit = fits }
-  where
-    fits : (r : Row) → List·Memᴰ r heavy → RowFits r
-    fits r (List·Memᴰ·head e) = rw e (record { budget-some = omega arith; budget-most = omega arith; period-most = omega arith; holding-most = omega arith })
-    fits r (List·Memᴰ·tail m) = rw (Memᴰ·eq-of-replicate 15 m) (record { budget-some = omega arith; budget-most = omega arith; period-most = omega arith; holding-most = omega arith })
-
-heavy-load : L heavy 1 numberLimit ≡ greatestLoad numberLimit
-unfolding loadAt demandOf sum greatest ceilDiv nthOr
-heavy-load = refl
-
 -- the listing of a planned file
 listing-short : (s : List ℕ) (room : ℕ) (text : List ℕ) → planOf s room ≡ answered text → length text ≤ listingLimit
 listing-short s room text e = go (readFile s) refl
@@ -188,9 +173,11 @@ pub greatest-values : GreatestValues 1000000
 greatest-values = record {
   holding = holding-most;
   need = need-most;
+  need-reached = need-reached;
   supply = supply-most;
+  supply-reached = supply-reached;
   load = load-most;
-  load-reached = (heavy, heavy-weighable, heavy-load);
+  load-reached = load-reached;
   product = product-most;
   listing = listing-short;
   fits = omega arith;

@@ -1,2 +1,3 @@
 pub mod Limit
+pub mod Reached
 pub mod Greatest

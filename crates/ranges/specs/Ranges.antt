@@ -89,11 +89,13 @@ pub record GreatestValues (limit : ℕ) : Type 0 where
   -- what is asked for while a lock is held: its longest use, and up to fifteen tasks above its ceiling
   pub holding : (s : List ℕ) (k : ℕ) (p : FilePart) → PartOf s k p → (l r w : ℕ) → 1 ≤ l → l ≤ lockCount p → 1 ≤ r → w ≤ limit
       → greatestHeld l (tasksIn p) + demandIn (higher r (tasksIn p)) w ≤ greatestNeed limit
-  -- what a task needs: its C, the tasks above it, and its blocking
+  -- what a task needs: its C, the tasks above it, and its blocking; and a file with a task that needs it
   pub need : (s : List ℕ) (k : ℕ) (p : FilePart) → PartOf s k p → (σ : Setting) (lower : List Task) (task : Task) (higher : List Task)
       → lower ++ (task ∷ higher) ≡ tasksIn p → (t : ℕ) → t ≤ limit → task .cost + demandIn higher t + blockingOf (lockCount p) σ lower ≤ greatestNeed limit
+  pub need-reached : (s : List ℕ) × (p : FilePart) × PartOf s 1 p × (task : Task) × (higher : List Task) × (task ∷ higher ≡ tasksIn p) × (task .cost + demandIn higher limit ≡ greatestNeed limit)
   -- the supply's (k+1)P
   pub supply : (P Q t : ℕ) → SupplyFits P Q t → (roundOf P Q t + 1) * P ≤ 3 * (limit - 1)
+  pub supply-reached : (roundOf (limit - 1) (limit - 1) limit + 1) * (limit - 1) ≡ 3 * (limit - 1)
   -- L(t) of a row, and rows that reach it
   pub load : (rows : List Row) → Weighable rows → (i t : ℕ) → 1 ≤ i → i ≤ length rows → t ≤ limit → L rows i t ≤ greatestLoad limit
   pub load-reached : (rows : List Row) × Weighable rows × (L rows 1 limit ≡ greatestLoad limit)
