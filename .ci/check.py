@@ -241,14 +241,25 @@ def check_one_pass(top):
 
 # ---- one limit of numbers
 
+# A number as it is written down, with or without its type; and the limit as a power or a product.
+WRITTEN = re.compile(r'(?<![\w.])(0x[0-9a-fA-F_]+|[0-9][0-9_]*?)(?:_?[ui](?:8|16|32|64|size))?(?!\w)')
+MADE = re.compile(r'\b10 ?\^ ?6\b|\b1_?000 ?\* ?1_?000\b')
+
+
+def limits(text):
+    """How often the limit of numbers, or the number above it, is written down in a text."""
+    values = (int(number, 16 if number.startswith('0x') else 10) for number in WRITTEN.findall(text))
+    return sum(value in (1_000_000, 1_000_001) for value in values) + len(MADE.findall(text))
+
+
 def check_one_limit(top):
     """The limit of numbers (M103b) is written down once in the definitions, for everything that is asked, and once in the code; the programs that are tests, and the table of examples, have their own."""
     for what, kind, tests in (('the definitions', 'specs/**/*.antt', {'examples'}), ('the code', 'src/**/*.rt', {'by_hand'})):
         places = [path for name in crates(top) if name not in tests for path in sorted((top / 'crates' / name).glob(kind))]
-        found = [path.relative_to(top) for path in places for _ in re.findall(r'(?<![\w.])1_?000_?00[01](?!\w)', source(path))]
-        if len(found) != 1 or found[0].parts[1] != 'refusal':
-            yield f'the limit of numbers stands {len(found)} times in {what}, and must stand once, in refusal: ' + ', '.join(map(str, found))
-    if not re.search(r'\bPLANNER_MOST_NUMBER = 1000000\b', (top / 'include' / 'planner.h').read_text()):
+        found = [str(path.relative_to(top)) for path in places for _ in range(limits(source(path)))]
+        if len(found) != 1 or not found[0].startswith('crates/refusal/'):
+            yield f'the limit of numbers stands {len(found)} times in {what}, and must stand once, in refusal: ' + ', '.join(found)
+    if not re.search(r'^enum {.*\bPLANNER_MOST_NUMBER = 1000000\b', (top / 'include' / 'planner.h').read_text(), re.M):
         yield 'include/planner.h: PLANNER_MOST_NUMBER is not the limit of numbers'
 
 

@@ -1,4 +1,4 @@
-/* All five operations: prints the plan of a file, the name and the candidates of each of its parts, and of two rows set by hand the load and the
+/* All five operations: prints the plan of a file, the name and the candidates of each of its parts, and of rows set by hand the load and the
  * supply.
  *
  *     cc -I include tests/examples/operations.c target/staticlib/libplanner_c.a -o operations
@@ -30,8 +30,11 @@ static void print_row(uint64_t period, uint64_t budget, uint64_t holding) {
     planner_row row = {period, budget, holding};
     planner_weigh_answer weighed = planner_weigh_slice(&row, 1);
     planner_supply_answer supplied = planner_supply(period, budget, 2 * period);
-    printf("(%" PRIu64 ",%" PRIu64 ",%" PRIu64 "): load %" PRIu64 "/%" PRIu64 ", supply in two periods %" PRIu64 "\n", period, budget, holding,
-           weighed.load.num, weighed.load.den, supplied.ticks);
+    printf("(%" PRIu64 ",%" PRIu64 ",%" PRIu64 "): load %" PRIu64 "/%" PRIu64 ", ", period, budget, holding, weighed.load.num, weighed.load.den);
+    if (supplied.number != 0)
+        printf("supply in two periods refused %" PRIu64 " %" PRIu64 "\n", supplied.number, supplied.place);
+    else
+        printf("supply in two periods %" PRIu64 "\n", supplied.ticks);
 }
 
 int main(int count, char **words) {
@@ -49,5 +52,7 @@ int main(int count, char **words) {
         print_part(length, part);
     print_row(96, 2, 2);
     print_row(20, 2, 1);
+    /* Numbers go up to this one, and two such periods are more. */
+    print_row(PLANNER_MOST_NUMBER, 2, 1);
     return 0;
 }

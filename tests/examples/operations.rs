@@ -1,5 +1,5 @@
 //! All five operations: prints the plan of a file, the name and the candidates of each of its parts,
-//! and of two rows set by hand the load and the supply.
+//! and of rows set by hand the load and the supply.
 //!
 //!     cargo run --release --features library --example operations -- FILE
 
@@ -7,6 +7,7 @@ use std::error::Error;
 use std::io::{self, Read, Write};
 use std::{env, fs};
 
+use reference::file::LARGEST_NUMBER;
 use reference::library::{candidates, name, plan, supply, weigh};
 use reference::system::Row;
 use reference::PROGRAM_ROOM;
@@ -40,7 +41,8 @@ fn main() -> Result<(), Box<dyn Error>> {
         }
         writeln!(out)?;
     }
-    for (period, budget, holding) in [(96, 2, 2), (20, 2, 1)] {
+    // Numbers go up to the last one, and two such periods are more.
+    for (period, budget, holding) in [(96, 2, 2), (20, 2, 1), (LARGEST_NUMBER, 2, 1)] {
         let row = Row {
             period,
             budget,
@@ -49,11 +51,14 @@ fn main() -> Result<(), Box<dyn Error>> {
         let load = weigh(&[row])
             .map_err(|refusal| format!("{refusal:?}"))?
             .load();
-        let ticks = supply(period, budget, 2 * period).map_err(|refusal| format!("{refusal:?}"))?;
         let (demand, time) = (load.demand, load.time);
+        let supplied = match supply(period, budget, 2 * period) {
+            Ok(ticks) => ticks.to_string(),
+            Err(refusal) => format!("refused {} {}", refusal.number, refusal.place),
+        };
         writeln!(
             out,
-            "({period},{budget},{holding}): load {demand}/{time}, supply in two periods {ticks}"
+            "({period},{budget},{holding}): load {demand}/{time}, supply in two periods {supplied}"
         )?;
     }
     Ok(())

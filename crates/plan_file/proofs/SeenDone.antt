@@ -24,7 +24,7 @@ number-range : (c : List ℕ) → isNumber c ≡ true → (1 ≤ valueOf c) × (
 number-range c e = let n = number-iff c .0 e in (n .from, n .to)
 
 -- the answer to each question, counted from 0
-pub yes-in : (qs : List Question) → allYes qs ≡ true → (k : ℕ) → getD qs k (ask FileTooLong true) .yes ≡ true
+yes-in : (qs : List Question) → allYes qs ≡ true → (k : ℕ) → getD qs k (ask FileTooLong true) .yes ≡ true
 unfolding allYes
 yes-in [] e k = refl
 yes-in (q ∷ qs) e zero = and-iff (q .yes) (allYes qs) .0 e .0

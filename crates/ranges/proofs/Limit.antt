@@ -1,20 +1,20 @@
 -- File numbers and hand-set numbers may be up to 1,000,000: question 7 and question 12 ask for that, and for no less.
 -- Assumes nothing.
-use Prim.Native.Nat.{ℕ}
+use Prim.Native.Nat.{ℕ, _≤_}
 use native.Mathlib.Omega.{arith}
-use mathlib.Core.Path.{_≡_, refl, sym, ap, _∙_}
-use mathlib.Core.Bool.{Bool, true, false, _&&_, false≢true}
-use mathlib.Core.Logic.{⊎-elim, _↔_}
-use mathlib.Core.List.{List, [], _∷_, List·Memᴰ, List·Memᴰ·head, List·Memᴰ·tail, List·Memᴰ·not-nil}
+use mathlib.Core.Path.{_≡_, refl, sym, subst}
+use mathlib.Core.Bool.{Bool, true, _&&_}
+use mathlib.Core.Logic.{_↔_}
+use mathlib.Core.List.{List, [], _∷_, List·Memᴰ, List·Memᴰ·head, List·Memᴰ·tail, List·Memᴰ·eq-of-singleton}
+use lib.ListN.{length, take, drop}
+use Rattle.least.specs.Lists.{every}
 use Rattle.least.proofs.Lists.{and-iff}
 use Rattle.text.specs.Bytes.{Line}
 use Rattle.text.specs.Decimal.{digitsOf}
-use Rattle.refusal.specs.declared.Refusal.the-variants.{BadNumber}
+use Rattle.text.proofs.Decimal.{value-digits}
+use Rattle.refusal.specs.declared.Refusal.the-variants.{BadLine}
 use Rattle.refusal.specs.Limits.{numberLimit}
-use Rattle.refusal.specs.Number.{refusalNumber}
 use Rattle.refusal.specs.Questions.{Question, ask}
-use Rattle.refusal.specs.FirstNo.{allYes, FirstNo}
-use Rattle.refusal.proofs.Questions.{yes-next, refused-iff, first-or-later, only-first}
 use Rattle.load.specs.declared.Row.{Row}
 use Rattle.load.specs.Weigh.{RowFits}
 use Rattle.scan.specs.Line.{lineIsGood}
@@ -24,9 +24,8 @@ use Rattle.records.specs.Records.{Record, recordIn}
 use Rattle.records.specs.Records.Record.{part, task, lock, end, noRecord}
 use Rattle.plan_file.specs.Above.{Above}
 use Rattle.plan_file.specs.Reading.{partQuestions, taskQuestions, lockQuestions, recordQuestions, questionsAt}
-use Rattle.plan_file.proofs.SeenDone.{yes-in}
 use Rattle.planner.specs.Refusals.{SupplyFits}
-use Rattle.ranges.specs.Ranges.{NumberUpTo, numberFields, RowUpTo, SupplyUpTo, NumbersUpTo}
+use Rattle.ranges.specs.Ranges.{NumberUpTo, numberFields, SevenAsks, RowUpTo, SupplyUpTo, NumbersUpTo}
 
 up-to-iff : (bs : List ℕ) → (isNumber bs ≡ true) ↔ NumberUpTo numberLimit bs
 up-to-iff bs = (
@@ -34,98 +33,64 @@ up-to-iff bs = (
   (λ n. number-iff bs .1 (record { digits = n .digits; plain = n .plain; from = n .from; to = n .to })),
 )
 
-not-up-to : (bs : List ℕ) → isNumber bs ≡ false → NumberUpTo numberLimit bs → ⊥
-not-up-to bs e n = false≢true (sym e ∙ up-to-iff bs .1 n)
+-- what question 7 asks of one field, and of three
+abbrev AllUpTo : List (List ℕ) → Type 0
+AllUpTo fields = (bs : List ℕ) → List·Memᴰ bs fields → NumberUpTo numberLimit bs
 
--- a refusal by 7 is not that of a question with another number
-other : (n : ℕ) (q : Question) (qs : List Question) → (refusalNumber (q .refusal) ≡ 7 → ⊥) → FirstNo (q ∷ qs) (BadNumber n) → FirstNo qs (BadNumber n)
-other n q qs differs f = ⊎-elim (λ e. absurd (differs (sym (ap refusalNumber e)))) (λ g. g) (first-or-later q qs (BadNumber n) f)
+one-up-to-iff : (P : List ℕ) → (isNumber P ≡ true) ↔ AllUpTo (P ∷ [])
+one-up-to-iff P = ((λ e bs m. subst (NumberUpTo numberLimit) (sym (List·Memᴰ·eq-of-singleton m)) (up-to-iff P .0 e)), λ h. up-to-iff P .1 (h P (List·Memᴰ·head refl)))
 
--- question 7 has the answer no, where no question behind it can give its refusal
-seventh : (n : ℕ) (b : Bool) (qs : List Question) → (FirstNo qs (BadNumber n) → ⊥) → FirstNo (ask (BadNumber n) b ∷ qs) (BadNumber n) → b ≡ false
-seventh n b qs none f = go b refl
+three-up-to-iff : (T C D : List ℕ) → (isNumber T && (isNumber C && isNumber D) ≡ true) ↔ AllUpTo (T ∷ C ∷ D ∷ [])
+three-up-to-iff T C D = (to, from)
   where
-    go : (t : Bool) → b ≡ t → t ≡ false
-    go true e = absurd (none (refused-iff qs (BadNumber n) .0 (sym (yes-next (ask (BadNumber n) b) qs e) ∙ refused-iff (ask (BadNumber n) b ∷ qs) (BadNumber n) .1 f)))
-    go false e = refl
+    to : isNumber T && (isNumber C && isNumber D) ≡ true → AllUpTo (T ∷ C ∷ D ∷ [])
+    to e bs (List·Memᴰ·head s) = rw s (up-to-iff T .0 (and-iff (isNumber T) (isNumber C && isNumber D) .0 e .0))
+    to e bs (List·Memᴰ·tail (List·Memᴰ·head s)) = rw s (up-to-iff C .0 (and-iff (isNumber C) (isNumber D) .0 (and-iff (isNumber T) (isNumber C && isNumber D) .0 e .1) .0))
+    to e bs (List·Memᴰ·tail (List·Memᴰ·tail m)) = one-up-to-iff D .0 (and-iff (isNumber C) (isNumber D) .0 (and-iff (isNumber T) (isNumber C && isNumber D) .0 e .1) .1) bs m
 
-last-other : (n : ℕ) (q : Question) → (refusalNumber (q .refusal) ≡ 7 → ⊥) → FirstNo (q ∷ []) (BadNumber n) → ⊥
-last-other n q differs f = differs (sym (ap refusalNumber (only-first q (BadNumber n) f)))
+    from : AllUpTo (T ∷ C ∷ D ∷ []) → isNumber T && (isNumber C && isNumber D) ≡ true
+    from h = simp (up-to-iff T .1 (h T (List·Memᴰ·head refl)), up-to-iff C .1 (h C (List·Memᴰ·tail (List·Memᴰ·head refl))), one-up-to-iff D .1 (λ bs m. h bs (List·Memᴰ·tail (List·Memᴰ·tail m))))
 
-module _ (n : ℕ) (a : Above) where
-  -- the questions of a record before and behind the seventh
-  part-seventh : (name P : List ℕ) → FirstNo (recordQuestions n a (part name P)) (BadNumber n) → isNumber P ≡ false
-  unfolding recordQuestions partQuestions
-  part-seventh name P f =
-      seventh n (isNumber P) _ (last-other n _ (λ e. omega (arith, e)))
-      (other n _ _ (λ e. omega (arith, e)) (other n _ _ (λ e. omega (arith, e)) (other n _ _ (λ e. omega (arith, e)) f)))
+module _ (n : ℕ) (a : Above) (good : Bool) where
+  -- questions 2 to 9 of a record
+  abbrev asked : Record → List Question
+  asked r = ask (BadLine n) good ∷ recordQuestions n a r
 
-  task-seventh : (name T C D : List ℕ) → FirstNo (recordQuestions n a (task name T C D)) (BadNumber n) → isNumber T && (isNumber C && isNumber D) ≡ false
-  unfolding recordQuestions taskQuestions
-  task-seventh name T C D f =
-      seventh n (isNumber T && (isNumber C && isNumber D)) _ (λ g. last-other n _ (λ e. omega (arith, e)) (other n _ _ (λ e. omega (arith, e)) g))
-      (other n _ _ (λ e. omega (arith, e)) (other n _ _ (λ e. omega (arith, e)) (other n _ _ (λ e. omega (arith, e)) f)))
+  record-asked : (r : Record) → 1 ≤ length (numberFields r) → SevenAsks numberLimit n (asked r) (numberFields r)
+  unfolding recordQuestions partQuestions taskQuestions lockQuestions numberFields every
+  record-asked (part name P) h = record {
+    before = take 4 (asked (part name P));
+    yes = isNumber P;
+    behind = drop 5 (asked (part name P));
+    is = refl;
+    lower = refl;
+    higher = refl;
+    asks = one-up-to-iff P;
+  }
+  record-asked (task name T C D) h = record {
+    before = take 4 (asked (task name T C D));
+    yes = isNumber T && (isNumber C && isNumber D);
+    behind = drop 5 (asked (task name T C D));
+    is = refl;
+    lower = refl;
+    higher = refl;
+    asks = three-up-to-iff T C D;
+  }
+  record-asked (lock name c) h = record {
+    before = take 4 (asked (lock name c));
+    yes = isNumber c;
+    behind = drop 5 (asked (lock name c));
+    is = refl;
+    lower = refl;
+    higher = refl;
+    asks = one-up-to-iff c;
+  }
+  record-asked end h = absurd (omega arith)
+  record-asked noRecord h = absurd (omega arith)
 
-  lock-seventh : (name c : List ℕ) → FirstNo (recordQuestions n a (lock name c)) (BadNumber n) → isNumber c ≡ false
-  unfolding recordQuestions lockQuestions
-  lock-seventh name c f =
-      seventh n (isNumber c) _ (λ g. last-other n _ (λ e. omega (arith, e)) (other n _ _ (λ e. omega (arith, e)) g))
-      (other n _ _ (λ e. omega (arith, e)) (other n _ _ (λ e. omega (arith, e)) (other n _ _ (λ e. omega (arith, e)) f)))
-
-  end-seventh : FirstNo (recordQuestions n a end) (BadNumber n) → ⊥
-  unfolding recordQuestions
-  end-seventh f = last-other n _ (λ e. omega (arith, e)) f
-
-  none-seventh : FirstNo (recordQuestions n a noRecord) (BadNumber n) → ⊥
-  unfolding recordQuestions
-  none-seventh f = last-other n _ (λ e. omega (arith, e)) f
-
-  abbrev Bad : Record → Type 0
-  Bad r = (bs : List ℕ) × List·Memᴰ bs (numberFields r) × (NumberUpTo numberLimit bs → ⊥)
-
-  record-refused : (r : Record) → FirstNo (recordQuestions n a r) (BadNumber n) → Bad r
-  unfolding numberFields
-  record-refused (part name P) f = (P, List·Memᴰ·head refl, not-up-to P (part-seventh name P f))
-  record-refused (task name T C D) f = go (isNumber T) (isNumber C) refl refl (task-seventh name T C D f)
-    where
-      go : (s t : Bool) → isNumber T ≡ s → isNumber C ≡ t → isNumber T && (isNumber C && isNumber D) ≡ false → Bad (task name T C D)
-      go false t e d g = (T, List·Memᴰ·head refl, not-up-to T e)
-      go true false e d g = (C, List·Memᴰ·tail (List·Memᴰ·head refl), not-up-to C d)
-      go true true e d g = (D, List·Memᴰ·tail (List·Memᴰ·tail (List·Memᴰ·head refl)), not-up-to D (simp (e, d) at g))
-  record-refused (lock name c) f = (c, List·Memᴰ·head refl, not-up-to c (lock-seventh name c f))
-  record-refused end f = absurd (end-seventh f)
-  record-refused noRecord f = absurd (none-seventh f)
-
-  -- where every question has the answer yes, the one at the place 3 has it too
-  record-accepted : (r : Record) → allYes (recordQuestions n a r) ≡ true → (bs : List ℕ) → List·Memᴰ bs (numberFields r) → NumberUpTo numberLimit bs
-  unfolding recordQuestions partQuestions taskQuestions lockQuestions numberFields
-  record-accepted (part name P) e bs (List·Memᴰ·head s) = rw s (up-to-iff P .0 (yes-in (recordQuestions n a (part name P)) e 3))
-  record-accepted (part name P) e bs (List·Memᴰ·tail m) = absurd (List·Memᴰ·not-nil m)
-  record-accepted (task name T C D) e bs m = go m
-    where
-      yes : (isNumber T ≡ true) × (isNumber C ≡ true) × (isNumber D ≡ true)
-      yes =
-          let t = and-iff (isNumber T) (isNumber C && isNumber D) .0 (yes-in (recordQuestions n a (task name T C D)) e 3) in
-          let c = and-iff (isNumber C) (isNumber D) .0 (t .1) in
-          (t .0, c .0, c .1)
-
-      go : List·Memᴰ bs (T ∷ C ∷ D ∷ []) → NumberUpTo numberLimit bs
-      go (List·Memᴰ·head s) = rw s (up-to-iff T .0 (yes .0))
-      go (List·Memᴰ·tail (List·Memᴰ·head s)) = rw s (up-to-iff C .0 (yes .1))
-      go (List·Memᴰ·tail (List·Memᴰ·tail (List·Memᴰ·head s))) = rw s (up-to-iff D .0 (yes .2))
-      go (List·Memᴰ·tail (List·Memᴰ·tail (List·Memᴰ·tail k))) = absurd (List·Memᴰ·not-nil k)
-  record-accepted (lock name c) e bs (List·Memᴰ·head s) = rw s (up-to-iff c .0 (yes-in (recordQuestions n a (lock name c)) e 3))
-  record-accepted (lock name c) e bs (List·Memᴰ·tail m) = absurd (List·Memᴰ·not-nil m)
-  record-accepted end e bs m = absurd (List·Memᴰ·not-nil m)
-  record-accepted noRecord e bs m = absurd (List·Memᴰ·not-nil m)
-
-  line-refused : (l : Line) → FirstNo (questionsAt n a l) (BadNumber n) → Bad (recordIn l)
-  unfolding questionsAt
-  line-refused l f = record-refused (recordIn l) (other n _ _ (λ e. omega (arith, e)) f)
-
-  line-accepted : (l : Line) → allYes (questionsAt n a l) ≡ true → (bs : List ℕ) → List·Memᴰ bs (numberFields (recordIn l)) → NumberUpTo numberLimit bs
-  unfolding questionsAt allYes
-  line-accepted l e = record-accepted (recordIn l) (and-iff (lineIsGood l) (allYes (recordQuestions n a (recordIn l))) .0 e .1)
+line-asked : (n : ℕ) (a : Above) (l : Line) → 1 ≤ length (numberFields (recordIn l)) → SevenAsks numberLimit n (questionsAt n a l) (numberFields (recordIn l))
+unfolding questionsAt
+line-asked n a l h = record-asked n a (lineIsGood l) (recordIn l) h
 
 row-fits-iff : (r : Row) → RowFits r ↔ RowUpTo numberLimit r
 row-fits-iff r = (
@@ -140,4 +105,4 @@ supply-fits-iff P Q t = (
 )
 
 pub numbers-up-to : NumbersUpTo 1000000
-numbers-up-to = record { refused = line-refused; accepted = line-accepted; written = λ n h k. up-to-iff (digitsOf n) .0 (number-digits n h k); row = row-fits-iff; supply = supply-fits-iff }
+numbers-up-to = record { fields = line-asked; written = λ n h k. (up-to-iff (digitsOf n) .0 (number-digits n h k), value-digits n); row = row-fits-iff; supply = supply-fits-iff }

@@ -1,6 +1,7 @@
 -- Request M-103: how great a number may be, and how great the sums and products over such numbers become.
 --   NumberUpTo limit bs  == the bytes of a number field are a number from 1 to the limit, in digits, without leading zero
 --   numberFields r       == the number fields of a record
+--   SevenAsks limit n questions fields == one question, between those with lower and those with higher numbers, asks whether all these fields are such numbers; a no is refused with 7 at n
 --   RowUpTo limit r, SupplyUpTo limit P Q t == 1 ≤ Q ≤ P ≤ limit and X ≤ limit, or t ≤ limit
 --   NumbersUpTo limit    == file numbers and hand-set numbers may be up to the limit, for all fields, supply and X included
 --   Weighable rows       == question 12 lets these rows through
@@ -10,17 +11,19 @@
 -- Assumes nothing.
 use Prim.Native.Nat.{ℕ, _+_, _-_, _*_, _^_, _≤_, _<_}
 use mathlib.Core.Path.{_≡_}
-use mathlib.Core.Bool.{true, false}
+use mathlib.Core.Bool.{Bool, true, false}
 use mathlib.Core.Logic.{_↔_}
 use mathlib.Core.List.{List, [], _∷_, _++_, List·Memᴰ}
+use lib.Dec.{ltb}
 use lib.ListN.{length}
 use Rattle.least.specs.declared.Frac.{Frac}
 use Rattle.least.specs.Lists.{every}
 use Rattle.text.specs.Bytes.{Line}
 use Rattle.text.specs.Decimal.{isDigit, valueOf, digitsOf}
 use Rattle.refusal.specs.declared.Refusal.the-variants.{BadNumber}
+use Rattle.refusal.specs.Number.{refusalNumber}
+use Rattle.refusal.specs.Questions.{Question, ask}
 use Rattle.refusal.specs.Questions.Answer.{answered}
-use Rattle.refusal.specs.FirstNo.{allYes, FirstNo}
 use Rattle.supply.specs.Supply.{roundOf}
 use Rattle.task_set.specs.declared.Task.{Task}
 use Rattle.task_set.specs.Tasks.{higher, demandIn, greatestHeld}
@@ -52,6 +55,15 @@ numberFields (lock name c) = c ∷ []
 numberFields end = []
 numberFields noRecord = []
 
+pub record SevenAsks (limit n : ℕ) (questions : List Question) (fields : List (List ℕ)) : Type 0 where
+  pub before : List Question
+  pub yes : Bool
+  pub behind : List Question
+  pub is : questions ≡ before ++ (ask (BadNumber n) yes ∷ behind)
+  pub lower : every (λ q. ltb (refusalNumber (q .refusal)) 7) before ≡ true
+  pub higher : every (λ q. ltb 7 (refusalNumber (q .refusal))) behind ≡ true
+  pub asks : (yes ≡ true) ↔ ((bs : List ℕ) → List·Memᴰ bs fields → NumberUpTo limit bs)
+
 pub record RowUpTo (limit : ℕ) (r : Row) : Type 0 where
   pub budget-some : 1 ≤ r .budget
   pub budget-most : r .budget ≤ r .period
@@ -65,12 +77,10 @@ pub record SupplyUpTo (limit P Q t : ℕ) : Type 0 where
   pub time-most : t ≤ limit
 
 pub record NumbersUpTo (limit : ℕ) : Type 0 where
-  -- a line of a file that question 7 refuses has a number field that is no such number
-  pub refused : (n : ℕ) (a : Above) (l : Line) → FirstNo (questionsAt n a l) (BadNumber n) → (bs : List ℕ) × List·Memᴰ bs (numberFields (recordIn l)) × (NumberUpTo limit bs → ⊥)
-  -- and one that no question refuses has none
-  pub accepted : (n : ℕ) (a : Above) (l : Line) → allYes (questionsAt n a l) ≡ true → (bs : List ℕ) → List·Memᴰ bs (numberFields (recordIn l)) → NumberUpTo limit bs
+  -- question 7 asks it of all number fields of a line
+  pub fields : (n : ℕ) (a : Above) (l : Line) → 1 ≤ length (numberFields (recordIn l)) → SevenAsks limit n (questionsAt n a l) (numberFields (recordIn l))
   -- from 1 to the limit there is no gap
-  pub written : (n : ℕ) → 1 ≤ n → n ≤ limit → NumberUpTo limit (digitsOf n)
+  pub written : (n : ℕ) → 1 ≤ n → n ≤ limit → NumberUpTo limit (digitsOf n) × (valueOf (digitsOf n) ≡ n)
   -- question 12 takes the same limit
   pub row : (r : Row) → RowFits r ↔ RowUpTo limit r
   pub supply : (P Q t : ℕ) → SupplyFits P Q t ↔ SupplyUpTo limit P Q t
