@@ -10,11 +10,11 @@ use reference::{candidates, file, library, plan, PROGRAM_ROOM};
 
 fn line(name: &str, what: &str, ours: u128, theirs: u128) {
     let ratio = ours as f64 / theirs as f64;
-    println!("{name:<14}{what:<10}{ours:>10}{theirs:>12}{ratio:>7.2}");
+    println!("{name:<14}{what:<10}{ours:>11}{theirs:>12}{ratio:>7.2}");
 }
 
 fn main() -> Result<(), Box<dyn Error>> {
-    println!("ns a run                   library   reference  ratio");
+    println!("ns a run                    library   reference  ratio");
     for BenchFile { name, bytes, .. } in timing::files()? {
         let parts = file::read(&bytes)
             .map_err(|refusal| format!("{name}: {refusal:?}"))?
