@@ -1,7 +1,7 @@
 -- How great the sums and products over numbers of up to 1,000,000 become.
 -- Assumes nothing.
-use Prim.Native.Nat.{ℕ, zero, suc, _+_, _-_, _*_, _/_, max, _≤_, _<_}
-use native.Mathlib.Nat.{le-trans, zero-mul, one-mul, suc-mul, add-mul, mul-le-mul-left, mul-le-mul-right, max-eq-left, max-eq-right}
+use Prim.Native.Nat.{ℕ, zero, suc, _+_, _-_, _*_, _/_, max, _≤_}
+use native.Mathlib.Nat.{le-trans, one-mul, add-mul, mul-le-mul-left, mul-le-mul-right, max-eq-left, max-eq-right}
 use native.Mathlib.Omega.{arith}
 use native.Mathlib.Decide.{decLe}
 use mathlib.Core.Path.{_≡_, refl, sym, ap, subst, _∙_}
@@ -11,7 +11,7 @@ use lib.ListN.{length, drop, take, length-append, length-map, length-drop}
 use Rattle.least.specs.declared.Frac.{Frac}
 use Rattle.least.specs.Round.{ceilDiv}
 use Rattle.least.specs.Lists.{nthOr}
-use Rattle.least.proofs.Round.{ceil-least, ceil-le, ceil-pos, product}
+use Rattle.least.proofs.Round.{ceil-under, ceil-least, ceil-le, ceil-pos, product}
 use Rattle.least.proofs.Lists.{nth-member}
 use Rattle.least.proofs.Members.{take-member, drop-member}
 use Rattle.least.proofs.Greatest.{greatest-le}
@@ -47,22 +47,13 @@ use Rattle.planner.proofs.Short.{printed-most}
 use Rattle.ranges.proofs.Reached.{need-reached, supply-reached, load-reached}
 use Rattle.ranges.specs.Ranges.{Weighable, greatestNeed, greatestLoad, GreatestValues}
 
--- ⌈a/b⌉ × b is less than a + b
-ceil-under : (a b c : ℕ) → 1 ≤ b → c ≡ ceilDiv a b → c * b < a + b
-ceil-under a b zero h e = omega (arith, zero-mul b)
-ceil-under a b (suc c) h e = go (decLe a (c * b))
-  where
-    go : Dec (a ≤ c * b) → suc c * b < a + b
-    go (yes l) = absurd (omega (arith, ceil-least a b c h l))
-    go (no l) = omega (arith, suc-mul c b)
-
 -- a task comes in t ticks for at most t − 1 + T ticks, and once if it comes as seldom as it may
 releases-most : (t T : ℕ) → 1 ≤ T → T ≤ numberLimit → t ≤ numberLimit → ceilDiv t T * T ≤ 2 * (numberLimit - 1)
 releases-most t T h k l = go (decLe t T)
   where
     go : Dec (t ≤ T) → ceilDiv t T * T ≤ 2 * (numberLimit - 1)
     go (yes q) = omega (arith, mul-le-mul-right T (ceil-least t T 1 h (omega (arith, one-mul T))), one-mul T)
-    go (no q) = omega (arith, ceil-under t T (ceilDiv t T) h refl)
+    go (no q) = omega (arith, ceil-under t T h)
 
 -- the tasks of a part of a readable file
 module _ (s : List ℕ) (k : ℕ) (p : FilePart) (d : PartOf s k p) where
@@ -126,7 +117,7 @@ supply-most P Q t f = go (decLe (t - (P - Q)) P)
     go (no l) =
         let c = ceilDiv (t - (P - Q)) P in
         let more : max c 1 ≡ c = max-eq-left (ceil-pos (t - (P - Q)) P some (omega arith)) in
-        rw more (omega (arith, ceil-under (t - (P - Q)) P c some refl, add-mul c 1 P, one-mul P, f .period-most, f .time-most))
+        rw more (omega (arith, ceil-under (t - (P - Q)) P some, add-mul c 1 P, one-mul P, f .period-most, f .time-most))
 
 -- what a row above asks for: it may come in every tick only if its budget is one tick
 row-most : (t P Q X : ℕ) → 1 ≤ P → Q ≤ P → P ≤ numberLimit → X ≤ numberLimit → t ≤ numberLimit → ceilDiv t P * (Q + X) ≤ numberLimit * (numberLimit + 1)
