@@ -1,23 +1,32 @@
 -- The local test of one task by iteration: its need is met at t just if the inverse of the supply takes the need at t to at most t.
 --   ticks P Q b task higher t == the ticks in which the need at t is supplied
+--   lineOf P Q == a linear supply that is never below the supply of (P,Q)
 -- Assumes nothing.
-use Prim.Native.Nat.{ℕ, _≤_, _<_}
-use native.Mathlib.Nat.{le-refl, add-le-add}
+use Prim.Native.Nat.{ℕ, _+_, _-_, _*_, _≤_, _<_}
+use native.Mathlib.Nat.{le-refl, add-le-add, mul-le-mul-left}
 use native.Mathlib.Omega.{arith}
 use mathlib.Core.Path.{_≡_, refl, sym, ap, _∙_, fun-ext}
-use mathlib.Core.Bool.{Bool, true, false, false≢true}
+use mathlib.Core.Bool.{Bool, true, false}
 use mathlib.Core.List.{List}
 use lib.Dec.{leb}
-use borrow.Author.Tests.{le-leb, lt-leb, leb-true, leb-false}
+use lib.ListN.{drop}
+use borrow.Author.Tests.{lt-leb, leb-false}
 use Rattle.least.specs.declared.Least.the-variants.{At, Nothing}
 use Rattle.least.specs.Search.{leastFrom, leastUpTo}
-use Rattle.least.proofs.Search.{least-iff, none-iff, any-true, any-false}
+use Rattle.least.proofs.Round.{product}
+use Rattle.least.proofs.Search.{same-tests, least-iff, none-iff, any-true, any-false}
 use Rattle.least.proofs.Iterate.{Mono, settles, Unsolved, step-unsolved, past-limit, at-rest}
+use Rattle.refusal.specs.Limits.{numberLimit}
 use Rattle.supply.specs.Supply.{supplyOf, ReachIs}
-use Rattle.supply.proofs.SupplyLaws.{reach, reach-iff, reach-mono, reach-over, supply-mono-Q}
+use Rattle.supply.proofs.SupplyLaws.{reach, reach-iff, reach-mono, reach-over, reach-line, supply-mono-Q}
+use Rattle.demand.specs.Demand.{demandFrom}
+use Rattle.envelope.specs.declared.LinearSupply.{LinearSupply}
+use Rattle.envelope.specs.Envelope.{FineSupply, NoEarlier}
 use Rattle.task_set.specs.declared.Task.{Task}
 use Rattle.task_set.specs.Blocking.{needOf}
+use Rattle.task_set.specs.ByColumn.{timesOf}
 use Rattle.task_set.proofs.Demand.{Separated, demand-mono}
+use Rattle.task_set.proofs.Times.{times-demand}
 use Rattle.budget.specs.Budget.{isMet, taskPasses}
 use Rattle.budget.specs.Code.{passingTime, NoneMet}
 
@@ -30,17 +39,6 @@ reach-unique P Q x r o u s is =
     let low = reach-iff P Q r x o u s .0 (is .least r .1 (le-refl r)) in
     let high = is .least (reach P Q x) .0 (reach-iff P Q (reach P Q x) x o u s .1 (le-refl _)) in
     omega arith
-
-same-tests : (a b c d : ℕ) → (a ≤ b → c ≤ d) → (c ≤ d → a ≤ b) → leb a b ≡ leb c d
-same-tests a b c d f g = go (leb a b) refl
-  where
-    go : (t : Bool) → leb a b ≡ t → leb a b ≡ leb c d
-    go true e = e ∙ sym (le-leb c d (f (leb-true a b e)))
-    go false e = e ∙ sym (lt-leb c d (past (leb c d) refl))
-      where
-        past : (t : Bool) → leb c d ≡ t → d < c
-        past true h = absurd (false≢true (sym e ∙ le-leb a b (g (leb-true c d h))))
-        past false h = leb-false c d h
 
 -- what a greater budget does not meet, a smaller one does not meet
 pub none-met-less : (P Q R b : ℕ) (task : Task) (higher : List Task) (s : ℕ) → 1 ≤ Q → Q ≤ R → R ≤ P → NoneMet P R b task higher s → NoneMet P Q b task higher s
@@ -99,3 +97,18 @@ module _ (P Q b : ℕ) (task : Task) (higher : List Task) where
 
     pub time-met : (t : ℕ) → Unsolved (ticks P Q b task higher) t → 1 ≤ t → t ≤ task .deadline → ticks P Q b task higher t ≤ t → passingTime P Q b task higher ≡ At t
     time-met t uns s l m = time-settles ∙ at-rest _ t (task .deadline) uns s l m
+
+-- a line above the supply
+abbrev pub lineOf : ℕ → ℕ → LinearSupply
+lineOf P Q = record { times = P; wait = Q * (P - Q); rate = Q }
+
+pub line-fine : (P Q : ℕ) → P ≤ numberLimit → 1 ≤ Q → Q ≤ P → FineSupply (lineOf P Q)
+line-fine P Q l o u = record { some = o; slow = u; times-most = l; wait-most = product numberLimit numberLimit (omega arith) (omega arith) }
+
+-- no time from t and x on at which the need is met is before y
+pub line-jump : (T C : List ℕ) (n s P Q b : ℕ) (task : Task) (t x y : ℕ) → 1 ≤ Q → Q ≤ P → NoEarlier T C n s (task .cost + b) (lineOf P Q) t x y
+    → (v : ℕ) → t ≤ v → x ≤ v → ticks P Q b task (drop s (timesOf T C n)) v ≤ v → y ≤ v
+unfolding needOf
+line-jump T C n s P Q b task t x y o u far v l k m =
+    let need : needOf b task (drop s (timesOf T C n)) v ≡ task .cost + b + demandFrom T C n s v = omega (arith, times-demand T C n s v) in
+    far .none-before v l k (omega (arith, reach-line P Q (needOf b task (drop s (timesOf T C n)) v) o u, mul-le-mul-left Q m, ap (λ (z : ℕ). P * z) need))

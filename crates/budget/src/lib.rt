@@ -1,4 +1,5 @@
 // The local test of one task, and its least budget. The tasks are lent by columns (crate task_set).
+use envelope::LinearSupply;
 use least::Least;
 ghost use mathlib.Core.Path.{_≡_};
 ghost use Prim.Native.Nat.{suc, _≤_, _<_};
@@ -25,6 +26,7 @@ fn passing_time(
 {
     let own = costs[i] + b;
     let mut t = start;
+    let mut left: u64 = 8;
     while t <= deadline {
         let need = own + demand::demand_from(separations, costs, n, i + 1, t);
         if deadline < need {
@@ -34,7 +36,20 @@ fn passing_time(
         if next <= t {
             return Least::At(t);
         }
-        t = next;
+        if 0 < left {
+            left -= 1;
+            t = next;
+            continue;
+        }
+        // A search that a few steps do not settle jumps at every other one, by a line above the supply.
+        left = 1;
+        let wait = q * (period - q);
+        let line = LinearSupply {
+            times: period,
+            wait,
+            rate: q,
+        };
+        t = envelope::no_earlier(separations, costs, n, i + 1, own, line, t, next, deadline);
     }
     Least::Nothing
 }

@@ -15,7 +15,7 @@ use Rattle.least.proofs.Round.{ceil-le, ceil-mono, product}
 use Rattle.least.proofs.Lists.{count-from}
 use Rattle.least.proofs.Sums.{sum-mono, sum-most, length-count}
 use Rattle.refusal.specs.Limits.{numberLimit}
-use Rattle.demand.specs.Demand.{demandFrom, costLimit, demandLimit, FineDemand}
+use Rattle.demand.specs.Demand.{demandFrom, costLimit, demandLimit, FinePeriods, FineDemand}
 
 module _ (periods costs : List ℕ) (n : ℕ) where
   pub demand-next : (k t : ℕ) → k < n → demandFrom periods costs n k t ≡ ceilDiv t (getD periods k 0) * getD costs k 0 + demandFrom periods costs n (suc k) t
@@ -35,6 +35,13 @@ module _ (periods costs : List ℕ) (n : ℕ) where
     demand-most k =
         let most = sum-most (λ j. ceilDiv t (getD periods j 0) * getD costs j 0) (numberLimit * costLimit) (countFrom k (n - k)) (λ j m. each-most j (omega (arith, count-from (n - k) k j m))) in
         omega (arith, most, length-count (n - k) k, fine .fine .few)
+
+  -- it does not fall in t
+  pub demand-rises : FinePeriods periods n → (k t u : ℕ) → t ≤ u → demandFrom periods costs n k t ≤ demandFrom periods costs n k u
+  unfolding demandFrom
+  demand-rises fine k t u l =
+      sum-mono (λ j. ceilDiv t (getD periods j 0) * getD costs j 0) (λ j. ceilDiv u (getD periods j 0) * getD costs j 0) (countFrom k (n - k))
+      (λ j m. mul-le-mul-right (getD costs j 0) (ceil-mono t u (getD periods j 0) (fine .some j (omega (arith, count-from (n - k) k j m))) l))
 
   -- if each comes as often in e ticks as in t, they ask for the same
   module _ (s t e : ℕ) (same : (k : ℕ) → s ≤ k → k < n → ceilDiv e (getD periods k 0) ≡ ceilDiv t (getD periods k 0)) where

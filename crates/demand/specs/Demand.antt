@@ -3,6 +3,7 @@
 --   FinePeriods periods n   == there are at most 16 periods, each from 1 to the limit of numbers
 --   FineDemand periods costs n == and no cost is greater than that of a row
 --   DemandIs periods costs n s t x == x is this demand, and within its limit
+--   SameUntil periods n s t most e == e is from t to `most`, and in e ticks each task from the place s on comes as often as in t ticks
 --   costLimit   == the greatest cost: Q + X of a row; a task's C is less
 --   demandLimit == the greatest demand in a time within the limit of numbers: sixteen costs in every tick of it
 -- Assumes nothing.
@@ -35,3 +36,8 @@ pub record FineDemand (periods costs : List ℕ) (n : ℕ) : Type 0 where
 pub record DemandIs (periods costs : List ℕ) (n s t x : ℕ) : Type 0 where
   pub value : x ≡ demandFrom periods costs n s t
   pub most : x ≤ demandLimit
+
+pub record SameUntil (periods : List ℕ) (n s t most e : ℕ) : Type 0 where
+  pub from : t ≤ e
+  pub within : e ≤ most
+  pub same : (k : ℕ) → s ≤ k → k < n → ceilDiv e (getD periods k 0) ≡ ceilDiv t (getD periods k 0)

@@ -1,4 +1,5 @@
 // Holding times of locks and of settings. The tasks are lent by columns (crate task_set).
+use envelope::LinearSupply;
 use least::Least;
 ghost use mathlib.Core.Path.{_≡_};
 ghost use Prim.Native.Nat.{_≤_};
@@ -19,6 +20,7 @@ pub fn hold(
     ensures { λ x. ⌜ x ≡ holdUpTo (timesOf (now (separations .entry)) (now (costs .entry)) n) g r limit ⌝ }
 {
     let mut w = g;
+    let mut left: u64 = 8;
     'search: loop {
         let fixed = loop {
             if limit < w {
@@ -28,7 +30,19 @@ pub fn hold(
             if next <= w {
                 break w;
             }
-            w = next;
+            if 0 < left {
+                left -= 1;
+                w = next;
+                continue;
+            }
+            // A search that a few steps do not settle jumps at every other one.
+            left = 1;
+            let whole = LinearSupply {
+                times: 1,
+                wait: 0,
+                rate: 1,
+            };
+            w = envelope::no_earlier(separations, costs, n, r, g, whole, w, next, limit);
         };
         break 'search Least::At(fixed);
     }

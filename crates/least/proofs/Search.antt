@@ -7,8 +7,22 @@ use native.Mathlib.Decide.{decLe}
 use mathlib.Core.Path.{_≡_, refl, sym, _∙_, ap, subst}
 use mathlib.Core.Bool.{Bool, true, false, false≢true}
 use mathlib.Core.Logic.{_⊎_, inl, inr, _↔_}
+use lib.Dec.{leb}
+use borrow.Author.Tests.{le-leb, lt-leb, leb-true, leb-false}
 use Rattle.least.specs.declared.Least.the-variants.{At, Nothing}
 use Rattle.least.specs.Search.{leastFrom, anyFrom, leastUpTo, anyUpTo, IsLeast}
+
+-- two comparisons that hold together
+pub same-tests : (a b c d : ℕ) → (a ≤ b → c ≤ d) → (c ≤ d → a ≤ b) → leb a b ≡ leb c d
+same-tests a b c d f g = go (leb a b) refl
+  where
+    go : (t : Bool) → leb a b ≡ t → leb a b ≡ leb c d
+    go true e = e ∙ sym (le-leb c d (f (leb-true a b e)))
+    go false e = e ∙ sym (lt-leb c d (past (leb c d) refl))
+      where
+        past : (t : Bool) → leb c d ≡ t → d < c
+        past true h = absurd (false≢true (sym e ∙ le-leb a b (g (leb-true c d h))))
+        past false h = leb-false c d h
 
 -- no number from a up to e, e left out, passes the test
 abbrev pub NoneIn : (ℕ → Bool) → ℕ → ℕ → Type 0

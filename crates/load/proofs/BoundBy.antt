@@ -9,10 +9,10 @@ use lib.ListN.{drop}
 use Rattle.least.specs.Lists.{greatest}
 use Rattle.least.specs.Fraction.{leastOver}
 use Rattle.least.proofs.Iterate.{Mono}
-use Rattle.demand.specs.Demand.{demandFrom, FineDemand}
+use Rattle.demand.specs.Demand.{demandFrom, FineDemand, SameUntil}
 use Rattle.demand.proofs.Demand.{demand-same}
 use Rattle.load.specs.Load.{row, loadAt, ratio, boundOf}
-use Rattle.load.specs.ByColumn.{rowsCosting, SameUntil}
+use Rattle.load.specs.ByColumn.{rowsCosting}
 use Rattle.load.proofs.Load.{loadAt-mono-t}
 use Rattle.load.proofs.Costing.{costing-demand, costing-periods}
 use Rattle.load.proofs.LeastRatio.{Best, best-start, best-stays, best-falls}

@@ -1,7 +1,6 @@
 pub mod Equal
 pub mod Load
 pub mod Costing
-pub mod Stretch
 pub mod LeastRatio
 pub mod BoundBy
 pub mod RowsBy

@@ -3,13 +3,10 @@
 --   rowsBy periods sums holdings n == n rows with these periods, costs and holding times
 --   ownLimit          == the greatest of what a row asks for itself: its cost, Q + X, and what blocks it
 --   FineColumns periods sums holdings n == their numbers are in range (`demand FineDemand`), and each row costs something, and no less than it holds
---   SameUntil periods n s t most e == e is from t to `most`, and in e ticks each row from the place s on comes as often as in t ticks
 -- Assumes nothing.
 use Prim.Native.Nat.{ℕ, _+_, _-_, _≤_, _<_}
-use mathlib.Core.Path.{_≡_}
 use mathlib.Core.List.{List, map}
 use lib.ListN.{getD}
-use Rattle.least.specs.Round.{ceilDiv}
 use Rattle.least.specs.Lists.{countFrom}
 use Rattle.refusal.specs.Limits.{numberLimit}
 use Rattle.demand.specs.Demand.{costLimit, FineDemand}
@@ -37,8 +34,3 @@ pub record FineColumns (periods sums holdings : List ℕ) (n : ℕ) : Type 0 whe
   pub some : (k : ℕ) → k < n → 1 ≤ getD sums k 0
   pub holds : (k : ℕ) → k < n → getD holdings k 0 ≤ getD sums k 0
   pub holdings-most : (k : ℕ) → k < n → getD holdings k 0 ≤ numberLimit
-
-pub record SameUntil (periods : List ℕ) (n s t most e : ℕ) : Type 0 where
-  pub from : t ≤ e
-  pub within : e ≤ most
-  pub same : (k : ℕ) → s ≤ k → k < n → ceilDiv e (getD periods k 0) ≡ ceilDiv t (getD periods k 0)

@@ -8,15 +8,14 @@ ghost use mathlib.Core.Bool.{not};
 ghost use mathlib.Core.List.{[]};
 ghost use Prim.Native.Nat.{_+_, _*_, _/_, min, _≤_, _<_};
 ghost use lib.ListN.{length, drop, take};
-ghost use Rattle.least.specs.Round.{ceilDiv};
 ghost use Rattle.least.specs.Lists.{firstOf, pad};
 ghost use Rattle.least.specs.Fraction.{atMost, greatestOf};
 ghost use Rattle.refusal.specs.Limits.{numberLimit};
-ghost use Rattle.demand.specs.Demand.{FinePeriods, FineDemand};
+ghost use Rattle.demand.specs.Demand.{FineDemand};
 ghost use Rattle.refusal.specs.declared.Outcome.the-variants.{Refused};
 ghost use Rattle.load.specs.Load.{row, rowSum, ratio, boundOf, boundsOf};
 ghost use Rattle.load.specs.Weigh.{rowInRange, hasTime, weighed, weighOf, rowsOf, weighRows};
-ghost use Rattle.load.specs.ByColumn.{rowsCosting, rowsBy, ownLimit, FineColumns, SameUntil};
+ghost use Rattle.load.specs.ByColumn.{rowsCosting, rowsBy, ownLimit, FineColumns};
 ghost use Rattle.load.specs.Code.{noFrac, FineRows, ColumnsAre, InRange, FineBounds};
 
 // A row: a period P, a budget Q and a holding time X.
@@ -40,28 +39,6 @@ pub struct Weighed {
     pub bounds: [Frac; 16],
     pub load: Frac,
     pub row: u64,
-}
-
-// The time at which a row with this period comes for the first time after t ticks or more.
-fn next_time(t: u64, period: u64) -> u64
-    requires { ⌜ (1 ≤ t) × (t ≤ numberLimit) × (1 ≤ period) × (period ≤ numberLimit) ⌝ }
-    ensures { λ r. ⌜ r ≡ ceilDiv t period * period ⌝ }
-{
-    demand::releases(t, period) * period
-}
-
-// The end of the stretch of times, up to `most`, in which the rows from the place s on ask for the same as in t ticks.
-fn same_until(periods: &[u64; 16], n: usize, s: usize, t: u64, most: u64) -> u64
-    requires { ⌜ FinePeriods (now periods) n × (1 ≤ t) × (t ≤ most) × (most ≤ numberLimit) ⌝ }
-    ensures { λ e. ⌜ SameUntil (now (periods .entry)) n s t most e ⌝ }
-{
-    let mut end = most;
-    let mut k = s;
-    while k < n {
-        end = least::smaller(end, next_time(t, periods[k]));
-        k += 1;
-    }
-    end
 }
 
 // The time, up to the period, until which a load of l is no smaller in proportion than num/den, a ratio of at most (period + 1)/period.
@@ -108,7 +85,7 @@ pub fn bound_of(
         if done < until {
             done = until;
         } else {
-            done = same_until(periods, n, s, done + 1, period);
+            done = demand::same_until(periods, n, s, done + 1, period);
             num = l;
             den = done;
         }

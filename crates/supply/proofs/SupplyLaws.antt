@@ -1,7 +1,7 @@
 -- Laws of the supply. `reach`: a supply of x or more is there from a certain t on. Every other law follows from it.
 -- Assumes nothing.
 use Prim.Native.Nat.{ℕ, zero, suc, _+_, _-_, _*_, max, _≤_, _<_}
-use native.Mathlib.Nat.{le-refl, le-trans, mul-add, suc-mul, zero-mul, mul-le-mul-right, add-sub-cancel, sub-add-cancel, add-le-add, mul-le-mul, sub-le-sub-left}
+use native.Mathlib.Nat.{le-refl, le-trans, mul-comm, mul-assoc, mul-right-comm, mul-add, add-mul, suc-mul, zero-mul, mul-le-mul-right, add-sub-cancel, sub-add-cancel, add-le-add, mul-le-mul, sub-le-sub-left}
 use native.Mathlib.Numerals.{add-one, sub-one}
 use native.Mathlib.Omega.{arith}
 use native.Mathlib.Decide.{decLe, decLt}
@@ -130,6 +130,30 @@ reach-over P Q x = omega arith
 pub reach-mono : (P Q x y : ℕ) → 1 ≤ Q → x ≤ y → reach P Q x ≤ reach P Q y
 unfolding reach
 reach-mono P Q x y h l = add-le-add l (mul-le-mul-right (P - Q) (add-le-add (ceil-mono x y Q h l) (le-refl 1)))
+
+-- a straight line under the inverse
+pub reach-line : (P Q x : ℕ) → 1 ≤ Q → Q ≤ P → P * x + Q * (P - Q) ≤ Q * reach P Q x
+unfolding reach
+reach-line P Q x h b =
+    let g = P - Q in
+    let m = ceilDiv x Q in
+    let e : g + Q ≡ P = sub-add-cancel b in
+    omega (
+      arith,
+      mul-add Q x ((m + 1) * g),
+      mul-assoc Q (m + 1) g,
+      mul-right-comm Q (m + 1) g,
+      mul-comm Q g,
+      mul-le-mul-right g (ceil-covers x Q h),
+      mul-comm x g,
+      mul-comm x Q,
+      mul-comm m Q,
+      mul-right-comm Q m g,
+      mul-add Q m 1,
+      add-mul (Q * m) Q g,
+      add-mul g Q x,
+      ap (λ (k : ℕ). k * x) e,
+    )
 
 -- one tick more of supply is at least one tick later
 reach-next : (P Q x : ℕ) → 1 ≤ Q → suc (reach P Q x) ≤ reach P Q (suc x)

@@ -1,21 +1,22 @@
 -- `budget::passing_time` meets its contract. The invariant: at no time below t is the need met.
 -- Assumes nothing.
 use Prim.Native.Nat.{ℕ, suc, _+_, _-_, _≤_}
-use mathlib.Core.Path.{_≡_, sym, ap, _∙_}
+use mathlib.Core.Path.{_≡_, sym, ap, subst, _∙_}
 use mathlib.Core.List.{List}
 use native.Mathlib.Numerals.{add-one}
 use native.Mathlib.Omega.{arith}
 use lib.ListN.{drop, getD}
-use Rattle.least.proofs.Iterate.{Unsolved, step-unsolved}
+use Rattle.least.proofs.Iterate.{Unsolved, step-unsolved, jump-unsolved}
 use Rattle.supply.proofs.SupplyLaws.{reach}
 use Rattle.demand.specs.Demand.{demandFrom}
+use Rattle.envelope.specs.Envelope.{NoEarlier}
 use Rattle.task_set.specs.declared.Task.{Task}
 use Rattle.task_set.specs.Blocking.{needOf}
 use Rattle.task_set.specs.ByColumn.{timesOf, FineTime}
 use Rattle.task_set.proofs.Demand.{Separated, separated-drop}
 use Rattle.task_set.proofs.Times.{times-demand, times-fine, times-separated}
 use Rattle.budget.specs.Code.{dueTask}
-use Rattle.budget.proofs.Iteration.{ticks, reach-unique, need-some, ticks-mono, start-unmet, time-past, time-over, time-met}
+use Rattle.budget.proofs.Iteration.{ticks, reach-unique, need-some, ticks-mono, start-unmet, time-past, time-over, time-met, lineOf, line-fine, line-jump}
 use Rattle.budget.proofs.passing_time.Statement.{statement}
 use Rattle.budget.proofs.passing_time.Tie as tie
 
@@ -24,10 +25,10 @@ abbrev above : List ℕ → List ℕ → ℕ → ℕ → List Task
 above separations costs n i = drop (suc i) (timesOf separations costs n)
 
 abbrev Inv-loop : tie.InvT-loop
-Inv-loop separations costs n i deadline period b q start own t₀ t = (1 ≤ t) × Unsolved (ticks period q b (dueTask costs i deadline) (above separations costs n i)) t
+Inv-loop separations costs n i deadline period b q start own t₀ left₀ t left = (1 ≤ t) × Unsolved (ticks period q b (dueTask costs i deadline) (above separations costs n i)) t
 
 abbrev μ-loop : tie.MeasureT-loop
-μ-loop separations costs n i deadline period b q start own t₀ t = deadline + 1 - t
+μ-loop separations costs n i deadline period b q start own t₀ left₀ t left = deadline + 1 - t
 
 -- the task and those above it
 abbrev task : tie.Start Inv-loop μ-loop → Task
@@ -109,15 +110,45 @@ returns-2 c =
     let at = c .before .before .before .before .before .loop in
     sym (time-met (s .args .period) (s .args .q) (s .args .b) (task s) (higher s) (apart s) (fine s .cost-some) (s .pre .5) (s .pre .6) (at .t) (at .inv .1) (at .inv .0) (omega arith) (omega (arith, then (c .before))))
 
+sub-left : tie.Need-sub-left Inv-loop μ-loop
+sub-left c = omega arith
+
 loop-less : tie.Need-loop-less Inv-loop μ-loop
 loop-less c = omega arith
 
 loop-again : tie.Need-loop-again Inv-loop μ-loop
 loop-again c =
-    let s = c .before .before .before .before .before .before .before in
-    let at = c .before .before .before .before .before .loop in
+    let s = c .before .before .before .before .before .before .before .before in
+    let at = c .before .before .before .before .before .before .loop in
     let mono = ticks-mono (s .args .period) (s .args .q) (s .args .b) (task s) (higher s) (apart s) (fine s .cost-some) (s .pre .5) (s .pre .6) in
-    (omega arith, step-unsolved _ (at .t) _ mono (at .inv .1) (omega (arith, then (c .before))))
+    (omega arith, step-unsolved _ (at .t) _ mono (at .inv .1) (omega (arith, then (c .before .before))))
+
+sub-wait : tie.Need-sub-wait Inv-loop μ-loop
+sub-wait c = omega arith
+
+mul-wait : tie.Need-mul-wait Inv-loop μ-loop
+mul-wait c = let s = c .before .before .before .before .before .before .before .before in omega (arith, line-fine (s .args .period) (s .args .q) (s .pre .3) (s .pre .5) (s .pre .6) .wait-most)
+
+add-no-earlier : tie.Need-add-no-earlier Inv-loop μ-loop
+add-no-earlier c = omega arith
+
+no-earlier-requires : tie.Need-no-earlier-requires Inv-loop μ-loop
+no-earlier-requires c κs =
+    let s = c .before .before .before .before .before .before .before .before in
+    let d = c .before .before .before .before in
+    (times-fine (s .args .separations .now) (s .args .costs .now) (s .args .n) (s .pre .0), omega (arith, fine s .cost-some), λ _. omega (arith, d .demand-from .ensures .value), line-fine (s .args .period) (s .args .q) (s .pre .3) (s .pre .5) (s .pre .6), omega (arith, d .before .before .loop .inv .0), omega arith, omega arith)
+
+loop-less-2 : tie.Need-loop-less-2 Inv-loop μ-loop
+loop-less-2 c = omega (arith, c .no-earlier .ensures .from)
+
+loop-again-2 : tie.Need-loop-again-2 Inv-loop μ-loop
+loop-again-2 c =
+    let s = c .before .before .before .before .before .before .before .before .before in
+    let at = c .before .before .before .before .before .before .before .loop in
+    let mono = ticks-mono (s .args .period) (s .args .q) (s .args .b) (task s) (higher s) (apart s) (fine s .cost-some) (s .pre .5) (s .pre .6) in
+    let asked = subst (λ (k : ℕ). NoEarlier (s .args .separations .now) (s .args .costs .now) (s .args .n) k (getD (s .args .costs .now) (s .args .i) 0 + s .args .b) (lineOf (s .args .period) (s .args .q)) (at .t) (c .before .before .before .reach-at .result) (c .no-earlier .result)) (add-one (s .args .i)) (c .no-earlier .ensures) in
+    let far = line-jump (s .args .separations .now) (s .args .costs .now) (s .args .n) (suc (s .args .i)) (s .args .period) (s .args .q) (s .args .b) (task s) (at .t) (c .before .before .before .reach-at .result) (c .no-earlier .result) (s .pre .5) (s .pre .6) asked in
+    (omega (arith, c .no-earlier .ensures .from), jump-unsolved _ (at .t) _ _ mono (at .inv .1) (omega (arith, then (c .before .before .before))) far)
 
 returns-3 : tie.Need-returns-3 Inv-loop μ-loop
 returns-3 c =
@@ -140,6 +171,13 @@ passing-time-spec =
     returns
     reach-at-requires
     returns-2
+    sub-left
     loop-less
     loop-again
+    sub-wait
+    mul-wait
+    add-no-earlier
+    no-earlier-requires
+    loop-less-2
+    loop-again-2
     returns-3)

@@ -1,5 +1,5 @@
--- The end of a stretch of times: as far as the next time of each row, the rows come as often as before.
---   Within periods s t most k e == e is from t to `most`, and at most the next time of each row from the place s up to k
+-- The end of a stretch of times: as far as the next time of each task, the tasks come as often as before.
+--   Within periods s t most k e == e is from t to `most`, and at most the next time of each task from the place s up to k
 -- Assumes nothing.
 use Prim.Native.Nat.{ℕ, _+_, _*_, _≤_, _<_, min}
 use native.Mathlib.Omega.{arith}
@@ -10,10 +10,9 @@ use mathlib.Core.List.{List}
 use lib.ListN.{getD}
 use Rattle.least.specs.Round.{ceilDiv}
 use Rattle.least.proofs.Round.{ceil-covers, ceil-same}
-use Rattle.demand.specs.Demand.{FinePeriods}
-use Rattle.load.specs.ByColumn.{SameUntil}
+use Rattle.demand.specs.Demand.{FinePeriods, SameUntil}
 
--- the next time, from t on, at which the row at the place k comes
+-- the next time, from t on, at which the task at the place k comes
 abbrev pub nextTime : List ℕ → ℕ → ℕ → ℕ
 nextTime periods t k = ceilDiv t (getD periods k 0) * getD periods k 0
 

@@ -1,11 +1,11 @@
--- `load::same_until` meets its contract. The invariant: the end is at most the next time of each row before the place k.
+-- `demand::same_until` meets its contract. The invariant: the end is at most the next time of each task before the place k.
 -- Assumes nothing.
 use Prim.Native.Nat.{_-_}
 use native.Mathlib.Omega.{arith}
 use borrow.Author.Needs.{needs}
-use Rattle.load.proofs.Stretch.{Within, within-start, within-next, within-end}
-use Rattle.load.proofs.same_until.Statement.{statement}
-use Rattle.load.proofs.same_until.Tie as tie
+use Rattle.demand.proofs.Stretch.{Within, within-start, within-next, within-end}
+use Rattle.demand.proofs.same_until.Statement.{statement}
+use Rattle.demand.proofs.same_until.Tie as tie
 
 abbrev Inv-loop : tie.InvT-loop
 Inv-loop periods n s t most end₀ k₀ end k = Within periods s t most k end

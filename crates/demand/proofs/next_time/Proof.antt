@@ -1,9 +1,9 @@
--- `load::next_time` meets its contract.
+-- `demand::next_time` meets its contract.
 -- Assumes nothing.
 use native.Mathlib.Omega.{arith}
 use Rattle.least.proofs.Round.{ceil-le, product-fits}
-use Rattle.load.proofs.next_time.Statement.{statement}
-use Rattle.load.proofs.next_time.Tie as tie
+use Rattle.demand.proofs.next_time.Statement.{statement}
+use Rattle.demand.proofs.next_time.Tie as tie
 
 releases-requires : tie.Need-releases-requires
 releases-requires c κs = omega arith
