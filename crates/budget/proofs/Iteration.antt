@@ -8,7 +8,6 @@ use native.Mathlib.Omega.{arith}
 use mathlib.Core.Path.{_≡_, refl, sym, ap, _∙_, fun-ext}
 use mathlib.Core.Bool.{Bool, true, false}
 use mathlib.Core.List.{List}
-use lib.Dec.{leb}
 use lib.ListN.{drop}
 use borrow.Author.Tests.{lt-leb, leb-false}
 use Rattle.least.specs.declared.Least.the-variants.{At, Nothing}

@@ -1,63 +1,106 @@
--- The least budget of one task from q on, by halving: `high` passes, first at `time`, and no budget from q up to `low` does.
+-- The least budget of one task from q on, from both ends: no budget from q up to `low` passes, `high` does, or is past the whole period, and with no budget
+-- between them the need is met before `start`.
 -- Assumes nothing.
-use Prim.Native.Nat.{ℕ, _+_, _≤_, _<_}
+use Prim.Native.Nat.{ℕ, suc, _+_, _≤_, _<_}
 use native.Mathlib.Nat.{eq-or-lt-of-le}
-use mathlib.Core.Path.{_≡_, sym, ap, _∙_}
-use mathlib.Core.Bool.{Bool, false≢true}
+use native.Mathlib.Omega.{arith}
+use native.Mathlib.Decide.{decLt}
+use mathlib.Core.Path.{_≡_, ap, _∙_}
+use mathlib.Core.Bool.{Bool, true, false}
 use mathlib.Core.Logic.{_⊎_, inl, inr}
 use mathlib.Core.List.{List}
+use borrow.Author.Tests.{lt-leb}
 use Rattle.least.specs.declared.Least.the-variants.{At, Nothing}
 use Rattle.least.proofs.Search.{least-iff}
-use Rattle.least.proofs.Bisect.{Rising, Bracket, bracket-start, bracket-down, bracket-up, bracket-end, none-rising, first-passes}
+use Rattle.least.proofs.Bisect.{Rising, Bracket, bracket-start, bracket-down, bracket-up, bracket-end, bracket-none, first-passes}
+use Rattle.supply.specs.Supply.{supplyOf}
+use Rattle.supply.proofs.SupplyLaws.{supply-mono-t, supply-le-t}
 use Rattle.task_set.specs.declared.Task.{Task}
-use Rattle.budget.specs.Budget.{taskPasses}
-use Rattle.budget.specs.Code.{passingTime, NoneMet, budgetFrom}
-use Rattle.budget.proofs.Passing.{task-mono-Q}
+use Rattle.task_set.specs.Tasks.{demandIn}
+use Rattle.task_set.specs.Blocking.{needOf}
+use Rattle.task_set.proofs.Demand.{Separated, demand-mono}
+use Rattle.budget.specs.Budget.{isMet, taskPasses}
+use Rattle.budget.specs.Code.{passingTime, NoneMet, EnoughIs, budgetFrom}
+use Rattle.budget.proofs.Passing.{taskPasses-iff, task-mono-Q}
 use Rattle.budget.proofs.Iteration.{time-passes, no-time-fails, time-first, none-met-less}
 
 module _ (P q b : ℕ) (task : Task) (higher : List Task) where
   abbrev test : ℕ → Bool
   test Q = taskPasses P Q b task higher
 
-  pub record Narrowed (time low high : ℕ) : Type 0 where
-    pub bracket : Bracket (λ Q. taskPasses P Q b task higher) q P low high
-    pub first : passingTime P high b task higher ≡ At time
+  pub record Narrowed (start low high : ℕ) : Type 0 where
+    pub bracket : Bracket (λ Q. taskPasses P Q b task higher) q (suc P) low high
+    pub some : 1 ≤ start
+    pub early : (m : ℕ) → low ≤ m → m < high → NoneMet P m b task higher start
 
-  test-rises : Rising test P
-  test-rises Q R o l u t = task-mono-Q P Q R b task higher o l u t
+  test-rises : (m : ℕ) → m ≤ P → Rising test m
+  test-rises m u Q R o l h t = task-mono-Q P Q R b task higher o l (omega arith) t
 
-  -- q passes, or no budget does
+  -- when the need is met
+  pub time-within : (Q t : ℕ) → passingTime P Q b task higher ≡ At t → (1 ≤ t) × (t ≤ task .deadline)
+  unfolding passingTime
+  time-within Q t e = let l = least-iff (isMet P Q b task higher) (task .deadline) t .0 e in (l .0 .positive, l .1)
+
+  -- q passes
   pub narrow-here : (t : ℕ) → q ≤ P → passingTime P q b task higher ≡ At t → budgetFrom P q b task higher ≡ At q
   unfolding budgetFrom
-  narrow-here t u e = first-passes test q P u (time-passes P q b task higher t e)
+  narrow-here t u e = first-passes test q (suc P) (omega arith) (time-passes P q b task higher t e)
 
-  pub narrow-none : 1 ≤ q → passingTime P P b task higher ≡ Nothing → budgetFrom P q b task higher ≡ Nothing
-  unfolding budgetFrom
-  narrow-none o e = none-rising test q P o test-rises (no-time-fails P P b task higher e)
-
-  pub narrow-start : (t : ℕ) → 1 ≤ q → q ≤ P → passingTime P q b task higher ≡ Nothing → passingTime P P b task higher ≡ At t → Narrowed t (q + 1) P
-  narrow-start t o u f e =
-      record { bracket = bracket-start test q P o (below (eq-or-lt-of-le u)) test-rises (no-time-fails P q b task higher f) (time-passes P P b task higher t e); first = e }
-    where
-      below : (q ≡ P) ⊎ (q < P) → q < P
-      below (inl s) = absurd (false≢true (sym (no-time-fails P q b task higher f) ∙ ap test s ∙ time-passes P P b task higher t e))
-      below (inr l) = l
-
-  module _ (time low high : ℕ) (k : Narrowed time low high) where
-    pub narrow-time : 1 ≤ time
-    unfolding passingTime
-    narrow-time = least-iff _ _ time .0 (k .first) .0 .positive
-
-    pub narrow-early : (m : ℕ) → 1 ≤ m → m ≤ high → NoneMet P m b task higher time
-    narrow-early m o l = none-met-less P m high b task higher time o l (k .bracket .top) (time-first P high b task higher time (k .first))
-
-    pub narrow-down : (m t : ℕ) → low ≤ m → m ≤ high → passingTime P m b task higher ≡ At t → Narrowed t low m
-    narrow-down m t l h e = record { bracket = bracket-down test q P low high m (k .bracket) l h (time-passes P m b task higher t e); first = e }
-
-    pub narrow-up : (m : ℕ) → low ≤ m → m < high → passingTime P m b task higher ≡ Nothing → Narrowed time (m + 1) high
-    narrow-up m l h e =
-        record { bracket = bracket-up test q P low high m test-rises (k .bracket) l h (no-time-fails P m b task higher e); first = k .first }
-
-    pub narrow-end : high ≤ low → budgetFrom P q b task higher ≡ At high
+  -- the end of the search
+  module _ (start low high : ℕ) (k : Narrowed start low high) (l : high ≤ low) where
+    pub narrow-end : high ≤ P → budgetFrom P q b task higher ≡ At high
     unfolding budgetFrom
-    narrow-end l = bracket-end test q P low high (k .bracket) l
+    narrow-end h = bracket-end test q (suc P) low high (k .bracket) l (omega arith)
+
+    pub narrow-none : P < high → budgetFrom P q b task higher ≡ Nothing
+    unfolding budgetFrom
+    narrow-none h = bracket-none test q (suc P) low high (k .bracket) l (omega arith)
+
+  -- the budget m fails
+  pub narrow-up : (start low high m : ℕ) → Narrowed start low high → low ≤ m → m < high → passingTime P m b task higher ≡ Nothing → Narrowed start (m + 1) high
+  narrow-up start low high m k l h e = record {
+    bracket = bracket-up test q (suc P) low high m (test-rises m (omega (arith, k .bracket .top))) (k .bracket) l h (no-time-fails P m b task higher e);
+    some = k .some;
+    early = λ v p. k .early v (omega arith);
+  }
+
+  module _ (costs : 1 ≤ task .cost) where
+    -- what is met by the deadline passes
+    met-passes : (Q t : ℕ) → 1 ≤ Q → Q ≤ P → t ≤ task .deadline → needOf b task higher t ≤ supplyOf P Q t → taskPasses P Q b task higher ≡ true
+    unfolding needOf
+    met-passes Q t o u l m = taskPasses-iff P Q b task higher .1 (t, omega (arith, supply-le-t P Q t o u), l, m)
+
+    -- q fails, and r is the least budget behind it that is enough by the deadline
+    pub narrow-start : (r : ℕ) → 1 ≤ q → q ≤ P → passingTime P q b task higher ≡ Nothing → EnoughIs P (needOf b task higher (task .deadline)) (task .deadline) (q + 1) (P + 1) r → Narrowed 1 (q + 1) r
+    narrow-start r o u f is = record {
+      bracket = bracket-down test q (suc P) (q + 1) (suc P) r
+          (bracket-up test q (suc P) q (suc P) q (test-rises q u) (bracket-start test q (suc P) o (omega arith)) (omega arith) (omega arith) (no-time-fails P q b task higher f))
+          (is .low) (omega (arith, is .high))
+          (λ h. met-passes r (task .deadline) (omega (arith, is .low)) (omega arith) (omega arith) (is .enough (omega arith)));
+      some = omega arith;
+      early = λ m p h t s e. absurd (omega arith);
+    }
+
+    -- the budget m passes, first at t; up to e the need stays the same, and r is the least budget that is enough by then
+    module _ (start low high m t e r : ℕ) (k : Narrowed start low high) (l : low ≤ m) (h : m < high)
+        (at : passingTime P m b task higher ≡ At t) (apart : Separated higher) (from : t ≤ e) (within : e ≤ task .deadline) (same : demandIn higher e ≡ demandIn higher t)
+        (is : EnoughIs P (needOf b task higher e) e low m r) where
+      passes : (r ≡ m) ⊎ (r < m) → taskPasses P r b task higher ≡ true
+      passes (inl s) = ap test s ∙ time-passes P m b task higher t at
+      passes (inr s) = met-passes r e (omega (arith, k .bracket .some, k .bracket .from, is .low)) (omega (arith, k .bracket .top)) within (is .enough s)
+
+      -- a smaller budget is met neither before t nor up to e
+      unmet : (Q v : ℕ) → low ≤ Q → Q < r → 1 ≤ v → v ≤ e → Dec (v < t) → isMet P Q b task higher v ≡ false
+      unfolding needOf
+      unmet Q v p s o w (yes d) =
+          none-met-less P Q m b task higher t (omega (arith, k .bracket .some, k .bracket .from)) (omega (arith, is .high)) (omega (arith, k .bracket .top)) (time-first P m b task higher t at) v o d
+      unmet Q v p s o w (no d) =
+          lt-leb (needOf b task higher v) (supplyOf P Q v)
+          (omega (arith, same, is .least Q p s, demand-mono higher apart t v (omega arith), supply-mono-t P Q v e (omega (arith, k .bracket .some, k .bracket .from)) (omega (arith, k .bracket .top, is .high)) w))
+
+      pub narrow-down : Narrowed (e + 1) low r
+      narrow-down = record {
+        bracket = bracket-down test q (suc P) low high r (k .bracket) (is .low) (omega (arith, is .high)) (λ s. passes (eq-or-lt-of-le (is .high)));
+        some = omega arith;
+        early = λ Q p s v o w. unmet Q v p s o (omega arith) (decLt v t);
+      }

@@ -2,6 +2,7 @@
 --   dueTask costs i D     == the task at the place i, with its C and its deadline
 --   passingTime P Q b task higher == the least t, 1 ≤ t ≤ D, at which the task's need is met
 --   NoneMet P Q b task higher t   == it is not met before t
+--   EnoughIs P x t from to r == r is the least budget from `from` up to `to`, `to` left out, that supplies x ticks in t ticks; `to` where there is none
 --   budgetFrom P q b task higher  == the least budget from q to P with which the task passes
 -- Assumes nothing.
 use Prim.Native.Nat.{ℕ, suc, _-_, _≤_, _<_}
@@ -11,6 +12,7 @@ use mathlib.Core.List.{List, []}
 use lib.ListN.{getD}
 use Rattle.least.specs.declared.Least.{Least}
 use Rattle.least.specs.Search.{leastFrom, leastUpTo}
+use Rattle.supply.specs.Supply.{supplyOf}
 use Rattle.task_set.specs.declared.Task.{Task}
 use Rattle.budget.specs.Budget.{isMet, taskPasses}
 
@@ -22,6 +24,12 @@ passingTime P Q b task higher = leastUpTo (isMet P Q b task higher) (task .deadl
 
 abbrev pub NoneMet : ℕ → ℕ → ℕ → Task → List Task → ℕ → Type 0
 NoneMet P Q b task higher s = (t : ℕ) → 1 ≤ t → t < s → isMet P Q b task higher t ≡ false
+
+pub record EnoughIs (P x t from to r : ℕ) : Type 0 where
+  pub low : from ≤ r
+  pub high : r ≤ to
+  pub enough : r < to → x ≤ supplyOf P r t
+  pub least : (m : ℕ) → from ≤ m → m < r → supplyOf P m t < x
 
 unfoldable pub budgetFrom : ℕ → ℕ → ℕ → Task → List Task → Least
 budgetFrom P q b task higher = leastFrom (λ Q. taskPasses P Q b task higher) q (suc P - q)

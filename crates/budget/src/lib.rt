@@ -5,8 +5,9 @@ ghost use mathlib.Core.Path.{_≡_};
 ghost use Prim.Native.Nat.{suc, _≤_, _<_};
 ghost use Rattle.refusal.specs.Limits.{numberLimit};
 ghost use Rattle.task_set.specs.Tasks.{higher};
+ghost use Rattle.task_set.specs.Blocking.{needOf};
 ghost use Rattle.task_set.specs.ByColumn.{timesOf, FineTimes};
-ghost use Rattle.budget.specs.Code.{dueTask, passingTime, NoneMet, budgetFrom};
+ghost use Rattle.budget.specs.Code.{dueTask, passingTime, NoneMet, EnoughIs, budgetFrom};
 
 // The least time up to its deadline at which the task at the place i, blocked for at most b ticks, has got what it needs with the budget q. There is
 // none before `start`.
@@ -54,6 +55,55 @@ fn passing_time(
     Least::Nothing
 }
 
+// The least budget from `from` up to `to`, `to` left out, with which the task at the place i, blocked for at most b ticks, has got what it needs at t; `to`
+// where there is none.
+fn enough_at(
+    separations: &[u64; 16],
+    costs: &[u64; 16],
+    n: usize,
+    i: usize,
+    t: u64,
+    period: u64,
+    b: u64,
+    from: u64,
+    to: u64,
+) -> u64
+    requires { ⌜ FineTimes (now separations) (now costs) n × (i < n) × (t ≤ numberLimit) × (period ≤ numberLimit) × (b ≤ numberLimit) × (1 ≤ from) × (from ≤ to) × (to ≤ suc period) ⌝ }
+    ensures { λ r. ⌜ EnoughIs period (needOf b (dueTask (now (costs .entry)) i t) (higher (suc i) (timesOf (now (separations .entry)) (now (costs .entry)) n)) t) t from to r ⌝ }
+{
+    let own = costs[i] + b;
+    if t < own {
+        return to;
+    }
+    let need = own + demand::demand_from(separations, costs, n, i + 1, t);
+    if t < need {
+        return to;
+    }
+    let mut least = from;
+    let mut most = to;
+    while least < most {
+        let middle = least + (most - least) / 2;
+        if supply::reach_at(period, middle, need) <= t {
+            most = middle;
+        } else {
+            least = middle + 1;
+        }
+    }
+    most
+}
+
+// The budget to be tried next, from low up to high, high left out: the middle, or the last.
+fn tried(low: u64, high: u64, halve: bool) -> u64
+    requires { ⌜ low < high ⌝ }
+    ensures { λ m. ⌜ (low ≤ m) × (m < high) ⌝ }
+{
+    if halve {
+        low + (high - low) / 2
+    } else {
+        high - 1
+    }
+}
+
 // The least budget, from q to the whole period, with which the task at the place i, blocked for at most b ticks, passes.
 pub fn least_budget(
     separations: &[u64; 16],
@@ -71,25 +121,29 @@ pub fn least_budget(
     if let Least::At(_) = passing_time(separations, costs, n, i, deadline, period, b, q, 1) {
         return Least::At(q);
     }
-    let Least::At(first) = passing_time(separations, costs, n, i, deadline, period, b, period, 1)
-    else {
-        return Least::Nothing;
-    };
-    // A smaller budget passes no earlier.
-    let mut time = first;
+    // The deadline is a likely time to pass at. A budget past the period stands for none.
+    let past = period + 1;
+    let mut high = enough_at(separations, costs, n, i, deadline, period, b, q + 1, past);
     let mut low = q + 1;
-    let mut high = period;
+    // Before this time no budget from low up to high passes.
+    let mut start: u64 = 1;
+    let mut halve = false;
     while low < high {
-        let middle = low + (high - low) / 2;
-        match passing_time(separations, costs, n, i, deadline, period, b, middle, time) {
+        let next = tried(low, high, halve);
+        halve = !halve;
+        match passing_time(separations, costs, n, i, deadline, period, b, next, start) {
             Least::At(t) => {
-                high = middle;
-                time = t;
+                let end = demand::same_until(separations, n, i + 1, t, deadline);
+                high = enough_at(separations, costs, n, i, end, period, b, low, next);
+                start = end + 1;
             }
             Least::Nothing => {
-                low = middle + 1;
+                low = next + 1;
             }
         }
+    }
+    if high == past {
+        return Least::Nothing;
     }
     Least::At(high)
 }
