@@ -9,6 +9,7 @@
 //! - [`random`]: made-up plan files
 //! - [`edges`]: numbers at and past the largest one
 //! - [`timing`]: nanoseconds a run
+//! - [`hunt`]: plan files that take long, made and changed
 //! - [`programs`]: the programs under crates/ and what each must print
 //! - [`by_hand`]: the numbers that the test program of that name hands over
 //! - `library`: the planner's own library, with the feature of that name
@@ -20,6 +21,7 @@ use std::ops::Range;
 pub mod by_hand;
 pub mod edges;
 pub mod file;
+pub mod hunt;
 #[cfg(feature = "library")]
 pub mod library;
 pub mod listing;

@@ -25,6 +25,13 @@ impl Random {
         low + self.number() % (high.saturating_sub(low) + 1)
     }
 
+    /// A number of the range, from 1 up: each size, in binary digits, is as likely.
+    pub fn of_any_size(&mut self, range: RangeInclusive<u64>) -> u64 {
+        let (low, high) = range.into_inner();
+        let digits = self.within(low.ilog2().into()..=high.max(low).ilog2().into());
+        self.within(low.max(1 << digits)..=high.min((2 << digits) - 1))
+    }
+
     pub fn index(&mut self, len: usize) -> usize {
         self.within(0..=len.saturating_sub(1) as u64) as usize
     }

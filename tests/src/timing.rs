@@ -1,4 +1,4 @@
-//! Timing: the files that are timed, and nanoseconds a run.
+//! Timing: the files that are timed, nanoseconds a run, and the time on the processor.
 
 use std::hint::black_box;
 use std::path::{Path, PathBuf};
@@ -81,4 +81,30 @@ fn best_round<T>(rounds: u32, run: &mut impl FnMut() -> T) -> u128 {
         best = best.min(begin.elapsed().as_nanos() / runs);
     }
     best
+}
+
+/// A time as Linux on x86-64 has it.
+#[repr(C)]
+struct Timespec {
+    seconds: i64,
+    nanoseconds: i64,
+}
+
+/// The clock of what this thread has used of the processor.
+const THREAD_CLOCK: i32 = 3;
+
+extern "C" {
+    fn clock_gettime(clock: i32, time: *mut Timespec) -> i32;
+}
+
+/// What this thread has used of the processor; other programs that run do not count.
+pub fn used() -> Duration {
+    let mut time = Timespec {
+        seconds: 0,
+        nanoseconds: 0,
+    };
+    // SAFETY: the call writes to `time` only.
+    let status = unsafe { clock_gettime(THREAD_CLOCK, &mut time) };
+    assert_eq!(status, 0, "no clock of the thread");
+    Duration::new(time.seconds as u64, time.nanoseconds as u32)
 }

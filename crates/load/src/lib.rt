@@ -1,21 +1,23 @@
 // The system test of rows, their bounds and their load.
+use envelope::LinearSupply;
 use least::Frac;
+use least::Least;
 use refusal::NUMBER_LIMIT;
 use refusal::Outcome;
 use refusal::Refusal;
 ghost use mathlib.Core.Path.{_≡_};
 ghost use mathlib.Core.Bool.{not};
 ghost use mathlib.Core.List.{[]};
-ghost use Prim.Native.Nat.{_+_, _*_, _/_, min, _≤_, _<_};
+ghost use Prim.Native.Nat.{_≤_};
 ghost use lib.ListN.{length, drop, take};
 ghost use Rattle.least.specs.Lists.{firstOf, pad};
-ghost use Rattle.least.specs.Fraction.{atMost, greatestOf};
+ghost use Rattle.least.specs.Fraction.{frac, atMost, greatestOf};
 ghost use Rattle.refusal.specs.Limits.{numberLimit};
 ghost use Rattle.demand.specs.Demand.{FineDemand};
 ghost use Rattle.refusal.specs.declared.Outcome.the-variants.{Refused};
-ghost use Rattle.load.specs.Load.{row, rowSum, ratio, boundOf, boundsOf};
+ghost use Rattle.load.specs.Load.{row, rowSum, boundOf, boundsOf};
 ghost use Rattle.load.specs.Weigh.{rowInRange, hasTime, weighed, weighOf, rowsOf, weighRows};
-ghost use Rattle.load.specs.ByColumn.{rowsCosting, rowsBy, ownLimit, FineColumns};
+ghost use Rattle.load.specs.ByColumn.{rowsCosting, rowsBy, ownLimit, FineColumns, LowerIs};
 ghost use Rattle.load.specs.Code.{noFrac, FineRows, ColumnsAre, InRange, FineBounds};
 
 // A row: a period P, a budget Q and a holding time X.
@@ -41,30 +43,74 @@ pub struct Weighed {
     pub row: u64,
 }
 
-// The time, up to the period, until which a load of l is no smaller in proportion than num/den, a ratio of at most (period + 1)/period.
-fn no_smaller_until(l: u64, num: u64, den: u64, period: u64) -> u64
-    requires { ⌜ (1 ≤ num) × (den ≤ numberLimit) × (period ≤ numberLimit) × (num * period ≤ den * period + den) ⌝ }
-    ensures { λ r. ⌜ r ≡ min period (l * den / num) ⌝ }
+// The smaller of a ratio and that of the time t, which counts only if it is at most 1; the first where they are equal.
+fn better(
+    periods: &[u64; 16],
+    sums: &[u64; 16],
+    n: usize,
+    s: usize,
+    t: u64,
+    own: u64,
+    best: Frac,
+) -> Frac
+    requires { ⌜ FineDemand (now periods) (now sums) n × (1 ≤ t) × (t ≤ numberLimit) × (own ≤ ownLimit) × (best .num ≤ numberLimit) × (best .den ≤ numberLimit) ⌝ }
+    ensures { λ r. ⌜ LowerIs (now (periods .entry)) (now (sums .entry)) n s t own best r ⌝ }
 {
-    if period < l {
-        return period;
+    let l = own + demand::demand_from(periods, sums, n, s, t);
+    if t < l {
+        return best;
     }
-    least::smaller(period, l * den / num)
+    if l * best.den < best.num * t {
+        return Frac { num: l, den: t };
+    }
+    best
 }
 
-// The ratio l/t, which counts only if l is at most t.
-fn ratio_of(l: u64, t: u64) -> Frac
-    ensures { λ r. ⌜ r ≡ ratio l t ⌝ }
+// A ratio to begin with: that of a likely time, the period or the last time up to it at which a row from the place s on comes again; 1 where none is smaller.
+fn likely(periods: &[u64; 16], sums: &[u64; 16], n: usize, s: usize, period: u64, own: u64) -> Frac
+    requires { ⌜ FineDemand (now periods) (now sums) n × (1 ≤ period) × (period ≤ numberLimit) × (1 ≤ own) × (own ≤ ownLimit) ⌝ }
+    ensures { λ r. ⌜ LowerIs (now (periods .entry)) (now (sums .entry)) n s period own (frac 1 1) r ⌝ }
 {
-    if l <= t {
-        Frac { num: l, den: t }
-    } else {
-        Frac { num: 1, den: 0 }
+    let one = Frac { num: 1, den: 1 };
+    let mut best = better(periods, sums, n, s, period, own, one);
+    let mut k = s;
+    while k < n {
+        let p = periods[k];
+        let t = least::larger(1, period / p * p);
+        best = better(periods, sums, n, s, t, own, best);
+        k += 1;
     }
+    best
 }
 
-// The bound of a row with this period whose own cost and blocking are `own`, below the rows from the place s on. Each turn passes over the times
-// whose ratio is no smaller than the least so far, or takes the next time, moved to the end of its stretch, as the new least.
+// A ratio to go on with: that of a time m strides after the time of `here`, for the greatest m up to the period, its half, and so on down to 1; `here` where
+// none is smaller. Ratios often fall along equal strides.
+fn further(
+    periods: &[u64; 16],
+    sums: &[u64; 16],
+    n: usize,
+    s: usize,
+    period: u64,
+    own: u64,
+    stride: u64,
+    here: Frac,
+) -> Frac
+    requires { ⌜ FineDemand (now periods) (now sums) n × (period ≤ numberLimit) × (1 ≤ own) × (own ≤ ownLimit) × (1 ≤ stride) × (here .num ≤ here .den) × (here .den ≤ period) ⌝ }
+    ensures { λ r. ⌜ LowerIs (now (periods .entry)) (now (sums .entry)) n s period own here r ⌝ }
+{
+    let from = here.den;
+    let mut best = here;
+    let mut m = (period - from) / stride;
+    while 0 < m {
+        best = better(periods, sums, n, s, from + m * stride, own, best);
+        m /= 2;
+    }
+    best
+}
+
+// The bound of a row with this period whose own cost and blocking are `own`, below the rows from the place s on. Each turn looks for the next time that reaches a
+// ratio which a later time attains, or, with `wait` 1, for the next time that is below the least so far. Its ratio at the end of its stretch is the least so
+// far, unless a further one is smaller: that is to be reached then. It begins with a likely ratio; where no time reaches it, there is no bound.
 pub fn bound_of(
     periods: &[u64; 16],
     sums: &[u64; 16],
@@ -76,21 +122,36 @@ pub fn bound_of(
     requires { ⌜ FineDemand (now periods) (now sums) n × (1 ≤ period) × (period ≤ numberLimit) × (1 ≤ own) × (own ≤ ownLimit) ⌝ }
     ensures { λ r. ⌜ r ≡ boundOf [] (row period own 0) (drop s (rowsCosting (now (periods .entry)) (now (sums .entry)) n)) ⌝ }
 {
-    let mut num = period + 1;
-    let mut den = period;
-    let mut done: u64 = 0;
-    while done < period {
-        let l = own + demand::demand_from(periods, sums, n, s, done + 1);
-        let until = no_smaller_until(l, num, den, period);
-        if done < until {
-            done = until;
+    let mut best = likely(periods, sums, n, s, period, own);
+    let mut wait: u64 = 0;
+    let mut last: u64 = 0;
+    loop {
+        let by = LinearSupply {
+            times: best.den,
+            wait,
+            rate: best.num,
+        };
+        let Least::At(t) = envelope::first_met(periods, sums, n, s, own, by, last + 1, period)
+        else {
+            if wait == 0 {
+                return Frac { num: 1, den: 0 };
+            }
+            return best;
+        };
+        let end = demand::same_until(periods, n, s, t, period);
+        let load = own + demand::demand_from(periods, sums, n, s, end);
+        let here = Frac {
+            num: load,
+            den: end,
+        };
+        best = further(periods, sums, n, s, period, own, end - last, here);
+        if best.den == end {
+            wait = 1;
         } else {
-            done = demand::same_until(periods, n, s, done + 1, period);
-            num = l;
-            den = done;
+            wait = 0;
         }
+        last = end;
     }
-    ratio_of(num, den)
 }
 
 // Every row's bound; 0/0 in the places that no row has.

@@ -5,5 +5,4 @@ pub mod Lower
 pub mod Descent
 pub mod Leading
 pub mod Reaching
-pub mod ReachingBy
 pub mod Selecting

@@ -8,7 +8,7 @@
 --   FinePlaces budgets holdings places n == each of n parts has a place below 121, with numbers within the limit
 --   ColumnsAre budgets holdings places n c == c holds the sums and the holding times of the rows at these places
 --   FineBest best     == 1/0, or a fraction of at most 1 of numbers from 1 to the limit
---   UntilIs best l u  == in proportion to the times up to u, and to no later one, a load of l is at least `best`
+--   BelowIs best by   == by this linear supply a load is met at a time just if its ratio there is below `best`
 --   StuckIs rows best r == r is the blocking of a row whose bound is not below `best`, if there is such a row
 --   HeaviestIs rows w == w is the bound and the blocking of a row that reaches the load
 --   MoverIs counts holdings places n x j == j is the first of n parts that holds for x, and has a next row; or there is no such part, and j is n
@@ -24,8 +24,10 @@ use Rattle.least.specs.declared.Frac.{Frac}
 use Rattle.least.specs.Lists.{greatest, some, countFrom}
 use Rattle.least.specs.Fraction.{noBound, _⊑_, _⊏_}
 use Rattle.refusal.specs.Limits.{numberLimit}
+use Rattle.envelope.specs.declared.LinearSupply.{LinearSupply}
+use Rattle.envelope.specs.Envelope.{metAt, FineSupply}
 use Rattle.load.specs.declared.Row.{Row}
-use Rattle.load.specs.Load.{row, rowSum, boundsOf, passesSystem}
+use Rattle.load.specs.Load.{row, rowSum, ratio, boundsOf, passesSystem}
 use Rattle.load.specs.ByColumn.{rowsBy, FineColumns}
 use Rattle.load.specs.Code.{noFrac, FineRow}
 use Rattle.selection.specs.declared.Columns.{Columns}
@@ -70,9 +72,10 @@ pub record FineBest (best : Frac) : Type 0 where
   pub num-most : best .num ≤ numberLimit
   pub den-most : best .den ≤ numberLimit
 
-pub record UntilIs (best : Frac) (l u : ℕ) : Type 0 where
-  pub within : (t : ℕ) → t ≤ u → (t < l) ⊎ (best .num * t ≤ l * best .den)
-  pub past : (t : ℕ) → u < t → (l ≤ t) × (l * best .den < best .num * t)
+pub record BelowIs (best : Frac) (by : LinearSupply) : Type 0 where
+  pub fine : FineSupply by
+  pub met : (l t : ℕ) → 1 ≤ t → metAt by l t ≡ true → ratio l t ⊏ best
+  pub missed : (l t : ℕ) → metAt by l t ≡ false → best ⊑ ratio l t
 
 pub record StuckIs (rows : List Row) (best : Frac) (r : Stuck) : Type 0 where
   pub reaches : r .found ≡ true → (s : ℕ) × (s < length rows) × (best ⊑ boundAt rows s) × (r .blocking ≡ heldBefore rows s)

@@ -1,5 +1,7 @@
 // The choice of least load among the rows that each part offers.
+use envelope::LinearSupply;
 use least::Frac;
+use least::Least;
 ghost use mathlib.Core.Path.{_≡_};
 ghost use mathlib.Core.List.{[]};
 ghost use Prim.Native.Nat.{ℕ, _≤_, _<_};
@@ -9,7 +11,7 @@ ghost use Rattle.refusal.specs.Limits.{numberLimit};
 ghost use Rattle.demand.specs.Demand.{FineDemand};
 ghost use Rattle.load.specs.Load.{row, boundOf};
 ghost use Rattle.load.specs.ByColumn.{rowsCosting, rowsBy, ownLimit, FineColumns};
-ghost use Rattle.selection.specs.Code.{FineOffers, FinePlaces, ColumnsAre, FineBest, UntilIs, StuckIs, HeaviestIs, MoverIs, ChoiceIs};
+ghost use Rattle.selection.specs.Code.{FineOffers, FinePlaces, ColumnsAre, FineBest, BelowIs, StuckIs, HeaviestIs, MoverIs, ChoiceIs};
 
 // A choice by columns: what each part's row costs, and its holding time.
 pub struct Columns {
@@ -42,21 +44,28 @@ fn columns_at(
     }
 }
 
-// The last time to which a load of l is in a proportion of at least `best`.
-fn until_reached(l: u64, best: Frac) -> u64
-    requires { ⌜ (1 ≤ l) × (l ≤ numberLimit) × FineBest best ⌝ }
-    ensures { λ u. ⌜ UntilIs best l u ⌝ }
+// The linear supply by which a load is met at a time just if its ratio there is below `best`.
+fn met_below(best: Frac) -> LinearSupply
+    requires { ⌜ FineBest best ⌝ }
+    ensures { λ by. ⌜ BelowIs best by ⌝ }
 {
     let num = best.num;
     let den = best.den;
     if den == 0 {
-        return l - 1;
+        return LinearSupply {
+            times: 1,
+            wait: 0,
+            rate: 1,
+        };
     }
-    l * den / num
+    LinearSupply {
+        times: den,
+        wait: 1,
+        rate: num,
+    }
 }
 
-// Whether the bound of a row with this period is not below `best`; its own cost and blocking are `own`, the rows from the place s on are above it. Each turn
-// passes over times whose ratio is not below `best`.
+// Whether the bound of a row with this period is not below `best`; its own cost and blocking are `own`, the rows from the place s on are above it.
 fn reaches(
     periods: &[u64; 16],
     sums: &[u64; 16],
@@ -69,19 +78,11 @@ fn reaches(
     requires { ⌜ FineDemand (now periods) (now sums) n × (1 ≤ period) × (period ≤ numberLimit) × (1 ≤ own) × (own ≤ ownLimit) × FineBest best ⌝ }
     ensures { λ r. ⌜ r ≡ atMost best (boundOf [] (row period own 0) (drop s (rowsCosting (now (periods .entry)) (now (sums .entry)) n))) ⌝ }
 {
-    let mut done: u64 = 0;
-    while done < period {
-        let l = own + demand::demand_from(periods, sums, n, s, done + 1);
-        if period < l {
-            return true;
-        }
-        let until = until_reached(l, best);
-        if until <= done {
-            return false;
-        }
-        done = until;
+    let by = met_below(best);
+    match envelope::first_met(periods, sums, n, s, own, by, 1, period) {
+        Least::At(_) => false,
+        Least::Nothing => true,
     }
-    true
 }
 
 // Whether some row has a bound that is not below a given one, and what blocks this row.
@@ -125,19 +126,20 @@ pub struct Weight {
     pub blocking: u64,
 }
 
-// A row that reaches the load: the last one.
+// A row that reaches the load: the last one. After the first row only rows that reach the greatest bound so far have theirs computed.
 fn heaviest(periods: &[u64; 16], sums: &[u64; 16], holdings: &[u64; 16], n: usize) -> Weight
     requires { ⌜ FineColumns (now periods) (now sums) (now holdings) n × (1 ≤ n) ⌝ }
     ensures { λ w. ⌜ HeaviestIs (rowsBy (now (periods .entry)) (now (sums .entry)) (now (holdings .entry)) n) w ⌝ }
 {
-    let mut bound = Frac { num: 0, den: 1 };
+    let mut bound = load::bound_of(periods, sums, n, 1, periods[0], sums[0]);
     let mut blocking: u64 = 0;
-    let mut below: u64 = 0;
-    let mut s = 0;
+    let mut below = holdings[0];
+    let mut s = 1;
     while s < n {
-        let b = load::bound_of(periods, sums, n, s + 1, periods[s], sums[s] + below);
-        if !least::is_less(b, bound) {
-            bound = b;
+        let period = periods[s];
+        let own = sums[s] + below;
+        if reaches(periods, sums, n, s + 1, period, own, bound) {
+            bound = load::bound_of(periods, sums, n, s + 1, period, own);
             blocking = below;
         }
         below = least::larger(below, holdings[s]);
