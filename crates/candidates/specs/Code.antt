@@ -5,18 +5,19 @@
 --   budgetAgain P b tested task higher q == the least budget from q on; a blocking that was tested before asks for no more
 --   budgetDown step k q == the least budget from q on after the steps of the places k − 1, .., 0
 --   BudgetIs step blocking n q r == r holds that budget of n places, and the blocking of each task, which is then tested
+--   hasPair P ts m == some permitted setting has a budget: there is a kept pair
 --   pairsOf budgets holdings n == the first n pairs of two arrays
 --   LighterIs budgets holdings n s r == the first r of n pairs are left once those at the end with a sum of at least s are dropped
 -- Assumes nothing.
 use Prim.Native.Nat.{ℕ, zero, suc, _+_, _≤_, _<_}
 use mathlib.Core.Path.{_≡_}
-use mathlib.Core.Bool.{true, false, cond}
+use mathlib.Core.Bool.{Bool, true, false, cond, not}
 use mathlib.Core.List.{List, map}
 use lib.Dec.{leb, eqb}
 use lib.ListN.{getD, drop}
 use Rattle.least.specs.declared.Least.{Least}
 use Rattle.least.specs.declared.Least.the-variants.{At, Nothing}
-use Rattle.least.specs.Lists.{greatest, countFrom}
+use Rattle.least.specs.Lists.{greatest, countFrom, isEmpty}
 use Rattle.refusal.specs.Limits.{numberLimit}
 use Rattle.task_set.specs.declared.Task.{Task}
 use Rattle.holding.specs.declared.Ceiling.{Ceiling}
@@ -26,7 +27,7 @@ use Rattle.budget.specs.Code.{dueTask, budgetFrom}
 use Rattle.candidates.specs.declared.Pair.{Pair}
 use Rattle.candidates.specs.declared.Raised.{Raised}
 use Rattle.candidates.specs.declared.Budgeted.{Budgeted}
-use Rattle.candidates.specs.Candidates.{pair}
+use Rattle.candidates.specs.Candidates.{pair, keptList}
 
 -- locks
 
@@ -73,6 +74,9 @@ pub record BudgetIs (step : ℕ → ℕ → Least) (blocking : ℕ → ℕ) (n q
   pub missed : r .found ≡ false → budgetDown step n q ≡ Nothing
 
 -- pairs
+
+unfoldable pub hasPair : ℕ → List Task → ℕ → Bool
+hasPair P ts m = not (isEmpty (keptList P ts m))
 
 abbrev pub pairAt : List ℕ → List ℕ → ℕ → Pair
 pairAt budgets holdings k = pair (getD budgets k 0) (getD holdings k 0)

@@ -1,5 +1,7 @@
 // The candidates of a part and its kept list.
 use holding::Ceiling;
+use holding::Hint;
+use holding::Lowest;
 use least::Least;
 use refusal::NUMBER_LIMIT;
 use task_set::Part;
@@ -12,9 +14,10 @@ ghost use Rattle.task_set.specs.Tasks.{tasksOf};
 ghost use Rattle.task_set.specs.Fine.{FinePart};
 ghost use Rattle.task_set.specs.ByColumn.{timesOf, FineTimes};
 ghost use Rattle.task_set.specs.ByLock.{blockingBy};
+ghost use Rattle.holding.specs.Code.{HintIs};
 ghost use Rattle.budget.specs.Code.{dueTask};
 ghost use Rattle.candidates.specs.Candidates.{keptAnswer, keptOf};
-ghost use Rattle.candidates.specs.Code.{nextCeiling, ceilingAt, FineLocks, RaisedIs, budgetAgain, budgetStep, BudgetIs, pairsOf, sumAt, LighterIs};
+ghost use Rattle.candidates.specs.Code.{nextCeiling, ceilingAt, FineLocks, RaisedIs, budgetAgain, budgetStep, BudgetIs, hasPair, pairsOf, sumAt, LighterIs};
 
 // A candidate: a least passing budget Q with its setting's holding time X.
 #[repr(C)]
@@ -33,7 +36,7 @@ pub struct Kept {
 // No time and no blocking is as great: it stands where there is none yet.
 const UNKNOWN: u64 = NUMBER_LIMIT + 1;
 
-// The ceiling of a lock at x, with its holding time, from those at a greater x.
+// The ceiling of a lock at x, with its holding time, from those at a greater x; and the hint for the next lock.
 fn next_ceiling(
     separations: &[u64; 16],
     costs: &[u64; 16],
@@ -43,17 +46,22 @@ fn next_ceiling(
     ceiling: usize,
     time: u64,
     x: u64,
-) -> Ceiling
-    requires { ⌜ FineTimes (now separations) (now costs) n × (1 ≤ g) × (g ≤ numberLimit) × (limit ≤ numberLimit) × (ceiling ≤ 16) ⌝ }
-    ensures { λ r. ⌜ r ≡ nextCeiling (timesOf (now (separations .entry)) (now (costs .entry)) n) g limit ceiling time x ⌝ }
+    hint: Hint,
+) -> Lowest
+    requires { ⌜ FineTimes (now separations) (now costs) n × (1 ≤ g) × (g ≤ numberLimit) × (limit ≤ numberLimit) × (ceiling ≤ 16) × HintIs (timesOf (now separations) (now costs) n) hint ⌝ }
+    ensures found { λ r. ⌜ r .ceiling ≡ nextCeiling (timesOf (now (separations .entry)) (now (costs .entry)) n) g limit ceiling time x ⌝ }
+    ensures told { λ r. ⌜ HintIs (timesOf (now (separations .entry)) (now (costs .entry)) n) (r .hint) ⌝ }
 {
     if time <= x {
-        return Ceiling::Held(ceiling, time);
+        return Lowest {
+            ceiling: Ceiling::Held(ceiling, time),
+            hint,
+        };
     }
     if time <= NUMBER_LIMIT {
-        return holding::lowest_within(separations, costs, n, g, limit, ceiling + 1, x);
+        return holding::lowest_within(separations, costs, n, g, limit, ceiling + 1, x, hint);
     }
-    holding::lowest_within(separations, costs, n, g, limit, ceiling, x)
+    holding::lowest_within(separations, costs, n, g, limit, ceiling, x, hint)
 }
 
 // The ceilings of all locks with their holding times, and X; none where some lock has none.
@@ -82,9 +90,10 @@ fn raise(
     let mut raised = ceilings;
     let mut held = times;
     let mut holding = 0;
+    let mut hint = holding::no_hint();
     let mut j = 0;
     while j < m {
-        match next_ceiling(
+        let next = next_ceiling(
             separations,
             costs,
             n,
@@ -93,7 +102,11 @@ fn raise(
             raised[j],
             held[j],
             x,
-        ) {
+            hint,
+        );
+        hint = next.hint;
+        let ceiling = next.ceiling;
+        match ceiling {
             Ceiling::Held(r, w) => {
                 raised[j] = r;
                 held[j] = w;
@@ -302,4 +315,50 @@ pub fn kept_of(part: Part) -> Kept
         }
         x = holding - 1;
     }
+}
+
+// Whether the part has a kept pair: whether the first turn of the search for its list finds one.
+pub fn has_pair(part: Part) -> bool
+    requires { ⌜ FinePart part × (1 ≤ part .period) × (part .period ≤ numberLimit) ⌝ }
+    ensures { λ r. ⌜ r ≡ hasPair (part .period) (tasksOf part) (part .locks) ⌝ }
+{
+    let columns = task_set::columns_of(part);
+    let separations = columns.separations;
+    let costs = columns.costs;
+    let deadlines = columns.deadlines;
+    let locks = task_set::locks_of(part);
+    let longest = locks.longest;
+    let limits = locks.deadlines;
+    let below = task_set::longest_below(part);
+    let lowest = locks.lowest;
+    let times = [UNKNOWN; 8];
+    let tested = [UNKNOWN; 16];
+    let raised = raise(
+        &separations,
+        &costs,
+        part.count,
+        &longest,
+        &limits,
+        part.locks,
+        lowest,
+        times,
+        NUMBER_LIMIT,
+    );
+    if !raised.found {
+        return false;
+    }
+    let ceilings = raised.ceilings;
+    let passing = budget_under(
+        &separations,
+        &costs,
+        &deadlines,
+        part.count,
+        part.period,
+        &below,
+        &ceilings,
+        part.locks,
+        tested,
+        1,
+    );
+    passing.found
 }

@@ -14,7 +14,7 @@ use Rattle.demand.proofs.Demand.{demand-next}
 use Rattle.envelope.specs.Envelope.{slopeScale, LineIs}
 
 -- one task as a slope: it asks for no less
-slope-under : (T C v : ℕ) → 1 ≤ T → C * slopeScale / T * v ≤ slopeScale * (ceilDiv v T * C)
+pub slope-under : (T C v : ℕ) → 1 ≤ T → C * slopeScale / T * v ≤ slopeScale * (ceilDiv v T * C)
 slope-under T C v h =
     let x = C * slopeScale / T in
     let m = ceilDiv v T in

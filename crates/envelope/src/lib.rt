@@ -20,7 +20,8 @@ pub struct Line {
     pub slope: u64,
 }
 
-const SCALE: u64 = 268435456;
+// A slope of 1.
+pub const SCALE: u64 = 268435456;
 
 // A slope with that of one more task. One that is a tick in every tick or more is cut off just below: it is as steep as any.
 fn steeper(slope: u64, period: u64, cost: u64) -> u64

@@ -3,3 +3,4 @@ pub mod SettingsAgree
 pub mod Falling
 pub mod Iteration
 pub mod Within
+pub mod Searching

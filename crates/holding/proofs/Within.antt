@@ -1,6 +1,6 @@
 -- A search up to the smaller of two limits finds what a search up to one of them finds within the other.
 -- Assumes nothing.
-use Prim.Native.Nat.{ℕ, suc, _+_, _-_, min, _≤_, _<_}
+use Prim.Native.Nat.{ℕ, suc, _-_, min, _≤_, _<_}
 use native.Mathlib.Omega.{arith}
 use native.Mathlib.Decide.{decLe}
 use mathlib.Core.Path.{_≡_, refl, sym, ap, _∙_}
@@ -11,7 +11,7 @@ use borrow.Author.Tests.{le-leb, lt-leb}
 use Rattle.least.specs.declared.Least.{Least}
 use Rattle.least.specs.declared.Least.the-variants.{At, Nothing}
 use Rattle.least.specs.Search.{leastUpTo, numberOr0}
-use Rattle.least.proofs.Search.{NoneIn, none-next, least-at, least-nothing, least-iff, none-iff}
+use Rattle.least.proofs.Search.{NoneIn, least-at, least-nothing, least-iff, none-iff}
 use Rattle.task_set.specs.declared.Task.{Task}
 use Rattle.holding.specs.declared.Ceiling.the-variants.{Held, NotHeld}
 use Rattle.holding.specs.Holding.{within}
@@ -41,10 +41,6 @@ module _ (test : ℕ → Bool) (e x : ℕ) where
 module _ (ts : List Task) (g limit x : ℕ) where
   abbrev pub heldWithin : ℕ → Bool
   heldWithin k = within x (holdUpTo ts g k limit)
-
-  pub ceiling-next : (r k : ℕ) → NoneIn heldWithin r k → holdUpTo ts g k (min limit x) ≡ Nothing → NoneIn heldWithin r (k + 1)
-  unfolding holdUpTo
-  ceiling-next r k none q = none-next heldWithin r k none (missed-within-both _ limit x q)
 
   pub ceiling-found : (r k w : ℕ) → NoneIn heldWithin r k → r ≤ k → k ≤ length ts → holdUpTo ts g k (min limit x) ≡ At w → lowestHeld ts g limit x r ≡ Held k w
   unfolding lowestHeld holdUpTo numberOr0

@@ -28,6 +28,7 @@ pub fn shown_ceilings(part: Part, x: u64) -> [u64; 8]
     let limits = locks.deadlines;
     let lowest = locks.lowest;
     let mut ceilings = [0u64; 8];
+    let mut hint = holding::no_hint();
     let mut j = 0;
     while j < part.locks {
         let found = holding::lowest_within(
@@ -38,8 +39,11 @@ pub fn shown_ceilings(part: Part, x: u64) -> [u64; 8]
             limits[j],
             lowest[j],
             x,
+            hint,
         );
-        ceilings[j] = ceiling_or_0(found);
+        hint = found.hint;
+        let ceiling = found.ceiling;
+        ceilings[j] = ceiling_or_0(ceiling);
         j += 1;
     }
     ceilings

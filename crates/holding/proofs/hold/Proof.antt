@@ -5,7 +5,7 @@ use Prim.Native.Nat.{_+_, _-_, _≤_}
 use mathlib.Core.Path.{_≡_, sym}
 use native.Mathlib.Omega.{arith}
 use mathlib.Core.List.{List}
-use Rattle.least.proofs.Iterate.{Unsolved, start-unsolved, step-unsolved, jump-unsolved, at-rest, past-limit}
+use Rattle.least.proofs.Iterate.{Unsolved, step-unsolved, jump-unsolved, at-rest, past-limit}
 use Rattle.refusal.specs.Limits.{numberLimit}
 use Rattle.demand.specs.Demand.{demandFrom}
 use Rattle.task_set.specs.declared.Task.{Task}
@@ -13,22 +13,23 @@ use Rattle.task_set.specs.ByColumn.{timesOf}
 use Rattle.task_set.proofs.Demand.{Separated}
 use Rattle.task_set.proofs.Times.{times-demand, times-fine, times-separated}
 use Rattle.holding.specs.Code.{holdUpTo}
-use Rattle.holding.proofs.Iteration.{holdNeed, need-mono, need-from, whole-fine, whole-jump}
+use Rattle.holding.proofs.Iteration.{holdNeed, need-mono, whole-fine, whole-jump}
+use Rattle.holding.proofs.Searching.{none-unsolved}
 use Rattle.holding.proofs.hold.Statement.{statement}
 use Rattle.holding.proofs.hold.Tie as tie
 
 abbrev Inv-loop : tie.InvT-loop
-Inv-loop separations costs n g r limit w₀ left₀ w left = (1 ≤ w) × Unsolved (holdNeed (timesOf separations costs n) g r) w
+Inv-loop separations costs n g r limit start w₀ left₀ w left = (1 ≤ w) × Unsolved (holdNeed (timesOf separations costs n) g r) w
 
 abbrev μ-loop : tie.MeasureT-loop
-μ-loop separations costs n g r limit w₀ left₀ w left = limit + 1 - w
+μ-loop separations costs n g r limit start w₀ left₀ w left = limit + 1 - w
 
 -- the labelled loop makes one turn
 abbrev Inv-search : tie.InvT-search
-Inv-search separations costs n g r limit w₀ left₀ w left = (1 ≤ w) × Unsolved (holdNeed (timesOf separations costs n) g r) w
+Inv-search separations costs n g r limit start w₀ left₀ w left = (1 ≤ w) × Unsolved (holdNeed (timesOf separations costs n) g r) w
 
 abbrev μ-search : tie.MeasureT-search
-μ-search separations costs n g r limit w₀ left₀ w left = 0
+μ-search separations costs n g r limit start w₀ left₀ w left = 0
 
 -- the tasks
 abbrev tasks : tie.Start Inv-loop μ-loop Inv-search μ-search → List Task
@@ -38,7 +39,7 @@ apart : (c : tie.Start Inv-loop μ-loop Inv-search μ-search) → Separated (tas
 apart c = times-separated (c .args .separations .now) (c .args .costs .now) (c .args .n) (c .pre .0)
 
 search-holds : tie.Need-search-holds Inv-loop μ-loop Inv-search μ-search
-search-holds c = (omega arith, start-unsolved _ (c .args .g) (need-from (tasks c) (c .args .g) (c .args .r)))
+search-holds c = (omega arith, none-unsolved (tasks c) (c .args .g) (c .args .r) (c .args .start) (c .pre .5))
 
 loop-holds : tie.Need-loop-holds Inv-loop μ-loop Inv-search μ-search
 loop-holds c = c .search .inv

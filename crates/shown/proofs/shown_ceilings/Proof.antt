@@ -1,12 +1,14 @@
--- `shown::shown_ceilings` meets its contract: each turn fills one place.
+-- `shown::shown_ceilings` meets its contract: each turn fills one place, and what the hint says is so.
 -- Assumes nothing.
 use Prim.Native.Nat.{suc, _-_, _≤_, _<_}
 use native.Mathlib.Omega.{arith}
 use mathlib.Core.Path.{ap, _∙_}
 use Rattle.least.proofs.Fill.{Filled, fill-start, fill-step}
 use Rattle.task_set.specs.Tasks.{tasksOf}
+use Rattle.task_set.specs.ByColumn.{timesOf}
 use Rattle.task_set.proofs.ByColumn.{columns-fine}
 use Rattle.task_set.proofs.ByLock.{longest-most, deadline-most}
+use Rattle.holding.specs.Code.{HintIs}
 use Rattle.candidates.specs.Candidates.{shownCeiling}
 use Rattle.shown.specs.Shown.{ceilingOr0}
 use Rattle.shown.proofs.Lowest.{shown-by-column}
@@ -14,11 +16,11 @@ use Rattle.shown.proofs.shown_ceilings.Statement.{statement}
 use Rattle.shown.proofs.shown_ceilings.Tie as tie
 
 abbrev Inv-loop : tie.InvT-loop
-Inv-loop part x separations costs longest limits lowest ceilings₀ j₀ ceilings j =
-    (j ≤ part .locks) × Filled 0 (λ k. shownCeiling (tasksOf part) x (suc k)) 8 ceilings j
+Inv-loop part x separations costs longest limits lowest ceilings₀ hint₀ j₀ ceilings hint j =
+    (j ≤ part .locks) × Filled 0 (λ k. shownCeiling (tasksOf part) x (suc k)) 8 ceilings j × HintIs (timesOf separations costs (part .count)) hint
 
 abbrev μ-loop : tie.MeasureT-loop
-μ-loop part x separations costs longest limits lowest ceilings₀ j₀ ceilings j = part .locks - j
+μ-loop part x separations costs longest limits lowest ceilings₀ hint₀ j₀ ceilings hint j = part .locks - j
 
 columns-of-requires : tie.Need-columns-of-requires Inv-loop μ-loop
 columns-of-requires c κs = tt
@@ -26,58 +28,65 @@ columns-of-requires c κs = tt
 locks-of-requires : tie.Need-locks-of-requires Inv-loop μ-loop
 locks-of-requires c κs = c .before .before .before .pre
 
+no-hint-requires : tie.Need-no-hint-requires Inv-loop μ-loop
+no-hint-requires c κs = tt
+
 loop-holds : tie.Need-loop-holds Inv-loop μ-loop
-loop-holds c = (omega arith, fill-start 0 _ 8 0)
+loop-holds c = (omega arith, fill-start 0 _ 8 0, c .no-hint .ensures _)
 
 mul-lowest-within : tie.Need-mul-lowest-within Inv-loop μ-loop
-mul-lowest-within c = omega (arith, c .before .before .before .before .before .before .before .before .before .before .before .before .pre .few-locks)
+mul-lowest-within c = omega (arith, c .before .before .before .before .before .before .before .before .before .before .before .before .before .pre .few-locks)
 
 array-read-lowest-within : tie.Need-array-read-lowest-within Inv-loop μ-loop
-array-read-lowest-within c = omega (arith, c .before .before .before .before .before .before .before .before .before .before .before .before .pre .few-locks)
+array-read-lowest-within c = omega (arith, c .before .before .before .before .before .before .before .before .before .before .before .before .before .pre .few-locks)
 
 mul-lowest-within-2 : tie.Need-mul-lowest-within-2 Inv-loop μ-loop
-mul-lowest-within-2 c = omega (arith, c .before .before .before .before .before .before .before .before .before .before .before .before .pre .few-locks)
+mul-lowest-within-2 c = omega (arith, c .before .before .before .before .before .before .before .before .before .before .before .before .before .pre .few-locks)
 
 array-read-lowest-within-2 : tie.Need-array-read-lowest-within-2 Inv-loop μ-loop
-array-read-lowest-within-2 c = omega (arith, c .before .before .before .before .before .before .before .before .before .before .before .before .pre .few-locks)
+array-read-lowest-within-2 c = omega (arith, c .before .before .before .before .before .before .before .before .before .before .before .before .before .pre .few-locks)
 
 mul-lowest-within-3 : tie.Need-mul-lowest-within-3 Inv-loop μ-loop
-mul-lowest-within-3 c = omega (arith, c .before .before .before .before .before .before .before .before .before .before .before .before .pre .few-locks)
+mul-lowest-within-3 c = omega (arith, c .before .before .before .before .before .before .before .before .before .before .before .before .before .pre .few-locks)
 
 array-read-lowest-within-3 : tie.Need-array-read-lowest-within-3 Inv-loop μ-loop
-array-read-lowest-within-3 c = omega (arith, c .before .before .before .before .before .before .before .before .before .before .before .before .pre .few-locks)
+array-read-lowest-within-3 c = omega (arith, c .before .before .before .before .before .before .before .before .before .before .before .before .before .pre .few-locks)
 
 lowest-within-requires : tie.Need-lowest-within-requires Inv-loop μ-loop
 lowest-within-requires c κs =
-    let s = c .before .before .before .before .before .before .before .before .before .before .before .before in
+    let s = c .before .before .before .before .before .before .before .before .before .before .before .before .before in
     let at = c .before .before .before .before .loop in
     let l : at .j < s .args .part .locks = c .before .before .if1 .taken in
-    let k = c .before .before .before .before .before .before .before .before .locks-of .ensures in
+    let columns = c .before .before .before .before .before .before .before .before .before .before .before .before .columns-of in
+    let k = c .before .before .before .before .before .before .before .before .before .locks-of .ensures in
     let fine = s .pre in
-    (columns-fine (s .args .part) fine (c .before .before .before .before .before .before .before .before .before .before .before .columns-of .result) (c .before .before .before .before .before .before .before .before .before .before .before .columns-of .ensures), omega (arith, k .longest (at .j) l, fine .used (suc (at .j)) (omega arith) l), omega (arith, k .longest (at .j) l, longest-most (s .args .part) fine (suc (at .j)) (omega arith) l), omega (arith, k .deadlines (at .j) l, deadline-most (s .args .part) fine (suc (at .j)) (omega arith) l))
+    (columns-fine (s .args .part) fine (columns .result) (columns .ensures), omega (arith, k .longest (at .j) l, fine .used (suc (at .j)) (omega arith) l), omega (arith, k .longest (at .j) l, longest-most (s .args .part) fine (suc (at .j)) (omega arith) l), omega (arith, k .deadlines (at .j) l, deadline-most (s .args .part) fine (suc (at .j)) (omega arith) l), at .inv .2)
 
 ceiling-or-0-requires : tie.Need-ceiling-or-0-requires Inv-loop μ-loop
 ceiling-or-0-requires c κs = tt
 
 mul-ceilings : tie.Need-mul-ceilings Inv-loop μ-loop
-mul-ceilings c = omega (arith, c .before .before .before .before .before .before .before .before .before .before .before .before .before .before .pre .few-locks)
+mul-ceilings c = omega (arith, c .before .before .before .before .before .before .before .before .before .before .before .before .before .before .before .before .pre .few-locks)
 
 array-write-ceilings : tie.Need-array-write-ceilings Inv-loop μ-loop
-array-write-ceilings c = omega (arith, c .before .before .before .before .before .before .before .before .before .before .before .before .before .before .pre .few-locks)
+array-write-ceilings c = omega (arith, c .before .before .before .before .before .before .before .before .before .before .before .before .before .before .before .before .pre .few-locks)
 
 add-j : tie.Need-add-j Inv-loop μ-loop
-add-j c = omega (arith, c .before .before .before .before .before .before .before .before .before .before .before .before .before .before .pre .few-locks)
+add-j c = omega (arith, c .before .before .before .before .before .before .before .before .before .before .before .before .before .before .before .before .pre .few-locks)
 
 loop-less : tie.Need-loop-less Inv-loop μ-loop
 loop-less c = omega arith
 
 loop-again : tie.Need-loop-again Inv-loop μ-loop
 loop-again c =
-    let s = c .before .before .before .before .before .before .before .before .before .before .before .before .before .before in
-    let at = c .before .before .before .before .before .before .loop in
-    let l : at .j < s .args .part .locks = c .before .before .before .before .if1 .taken in
-    let is = c .ceiling-or-0 .ensures ∙ ap ceilingOr0 (c .before .lowest-within .ensures) ∙ shown-by-column (s .args .part) (s .pre) (c .before .before .before .before .before .before .before .before .before .before .before .before .before .columns-of .result) (c .before .before .before .before .before .before .before .before .before .before .before .before .before .columns-of .ensures) (c .before .before .before .before .before .before .before .before .before .before .locks-of .result) (c .before .before .before .before .before .before .before .before .before .before .locks-of .ensures) (s .args .x) (at .j) l in
-    (omega arith, fill-step 0 _ 8 (at .ceilings) (at .j) _ (at .inv .1) (omega (arith, s .pre .few-locks)) is)
+    let s = c .before .before .before .before .before .before .before .before .before .before .before .before .before .before .before .before in
+    let at = c .before .before .before .before .before .before .before .loop in
+    let l : at .j < s .args .part .locks = c .before .before .before .before .before .if1 .taken in
+    let columns = c .before .before .before .before .before .before .before .before .before .before .before .before .before .before .before .columns-of in
+    let locks = c .before .before .before .before .before .before .before .before .before .before .before .before .locks-of in
+    let found = c .before .before .lowest-within .ensures in
+    let is = c .ceiling-or-0 .ensures ∙ ap ceilingOr0 (found .0) ∙ shown-by-column (s .args .part) (s .pre) (columns .result) (columns .ensures) (locks .result) (locks .ensures) (s .args .x) (at .j) l in
+    (omega arith, fill-step 0 _ 8 (at .ceilings) (at .j) _ (at .inv .1) (omega (arith, s .pre .few-locks)) is, found .1)
 
 returns : tie.Need-returns Inv-loop μ-loop
 returns c = λ j h. let l = c .if1 .left in c .before .before .loop .inv .1 .each j (omega arith)
@@ -90,6 +99,7 @@ shown-ceilings-spec =
     μ-loop
     columns-of-requires
     locks-of-requires
+    no-hint-requires
     loop-holds
     mul-lowest-within
     array-read-lowest-within

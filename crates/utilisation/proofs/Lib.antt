@@ -1,0 +1,3 @@
+pub mod Shares
+pub mod Local
+pub mod System
