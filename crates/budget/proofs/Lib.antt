@@ -4,3 +4,4 @@ pub mod Iteration
 pub mod Enough
 pub mod Narrow
 pub mod ByPlace
+pub mod Below

@@ -7,7 +7,7 @@ ghost use Rattle.refusal.specs.Limits.{numberLimit};
 ghost use Rattle.task_set.specs.Tasks.{higher};
 ghost use Rattle.task_set.specs.Blocking.{needOf};
 ghost use Rattle.task_set.specs.ByColumn.{timesOf, FineTimes};
-ghost use Rattle.budget.specs.Code.{dueTask, passingTime, NoneMet, EnoughIs, budgetFrom};
+ghost use Rattle.budget.specs.Code.{dueTask, passingTime, NoneMet, EnoughIs, budgetFrom, PassedIs};
 
 // The least time up to its deadline at which the task at the place i, blocked for at most b ticks, has got what it needs with the budget q. There is
 // none before `start`.
@@ -104,7 +104,14 @@ fn tried(low: u64, high: u64, halve: bool) -> u64
     }
 }
 
-// The least budget, from q to the whole period, with which the task at the place i, blocked for at most b ticks, passes.
+// The least budget of a task, and a time before which the task's need is not met with it.
+pub struct Passed {
+    pub budget: Least,
+    pub time: u64,
+}
+
+// The least budget, from q to the whole period, with which the task at the place i, blocked for at most b ticks, passes. With q its need is not met before
+// `start`.
 pub fn least_budget(
     separations: &[u64; 16],
     costs: &[u64; 16],
@@ -114,28 +121,34 @@ pub fn least_budget(
     period: u64,
     b: u64,
     q: u64,
-) -> Least
-    requires { ⌜ FineTimes (now separations) (now costs) n × (i < n) × (deadline ≤ numberLimit) × (period ≤ numberLimit) × (b ≤ numberLimit) × (1 ≤ q) × (q ≤ period) ⌝ }
-    ensures { λ x. ⌜ x ≡ budgetFrom period q b (dueTask (now (costs .entry)) i deadline) (higher (suc i) (timesOf (now (separations .entry)) (now (costs .entry)) n)) ⌝ }
+    start: u64,
+) -> Passed
+    requires { ⌜ FineTimes (now separations) (now costs) n × (i < n) × (deadline ≤ numberLimit) × (period ≤ numberLimit) × (b ≤ numberLimit) × (1 ≤ q) × (q ≤ period) × (1 ≤ start) × NoneMet period q b (dueTask (now costs) i deadline) (higher (suc i) (timesOf (now separations) (now costs) n)) start ⌝ }
+    ensures { λ r. ⌜ PassedIs period b (dueTask (now (costs .entry)) i deadline) (higher (suc i) (timesOf (now (separations .entry)) (now (costs .entry)) n)) (budgetFrom period q b (dueTask (now (costs .entry)) i deadline) (higher (suc i) (timesOf (now (separations .entry)) (now (costs .entry)) n))) r ⌝ }
 {
-    if let Least::At(_) = passing_time(separations, costs, n, i, deadline, period, b, q, 1) {
-        return Least::At(q);
+    if let Least::At(t) = passing_time(separations, costs, n, i, deadline, period, b, q, start) {
+        return Passed {
+            budget: Least::At(q),
+            time: t,
+        };
     }
     // The deadline is a likely time to pass at. A budget past the period stands for none.
     let past = period + 1;
     let mut high = enough_at(separations, costs, n, i, deadline, period, b, q + 1, past);
     let mut low = q + 1;
-    // Before this time no budget from low up to high passes.
-    let mut start: u64 = 1;
+    // With high the need is not met before `time`, with no budget from low up to high before `begin`.
+    let mut time: u64 = 1;
+    let mut begin: u64 = 1;
     let mut halve = false;
     while low < high {
         let next = tried(low, high, halve);
         halve = !halve;
-        match passing_time(separations, costs, n, i, deadline, period, b, next, start) {
+        match passing_time(separations, costs, n, i, deadline, period, b, next, begin) {
             Least::At(t) => {
                 let end = demand::same_until(separations, n, i + 1, t, deadline);
                 high = enough_at(separations, costs, n, i, end, period, b, low, next);
-                start = end + 1;
+                time = t;
+                begin = end + 1;
             }
             Least::Nothing => {
                 low = next + 1;
@@ -143,7 +156,13 @@ pub fn least_budget(
         }
     }
     if high == past {
-        return Least::Nothing;
+        return Passed {
+            budget: Least::Nothing,
+            time: 1,
+        };
     }
-    Least::At(high)
+    Passed {
+        budget: Least::At(high),
+        time,
+    }
 }

@@ -10,6 +10,7 @@ pub mod Known
 pub mod Settle
 pub mod Pairs
 pub mod Budgets
+pub mod Starts
 pub mod Lowest
 pub mod Turn
 pub mod Searching

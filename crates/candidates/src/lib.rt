@@ -1,4 +1,5 @@
 // The candidates of a part and its kept list.
+use budget::Passed;
 use holding::Ceiling;
 use holding::Hint;
 use holding::Lowest;
@@ -15,7 +16,7 @@ ghost use Rattle.task_set.specs.Fine.{FinePart};
 ghost use Rattle.task_set.specs.ByColumn.{timesOf, FineTimes};
 ghost use Rattle.task_set.specs.ByLock.{blockingBy};
 ghost use Rattle.holding.specs.Code.{HintIs};
-ghost use Rattle.budget.specs.Code.{dueTask};
+ghost use Rattle.budget.specs.Code.{dueTask, NoneMet, PassedIs};
 ghost use Rattle.candidates.specs.Candidates.{keptAnswer, keptOf};
 ghost use Rattle.candidates.specs.Code.{nextCeiling, ceilingAt, FineLocks, RaisedIs, budgetAgain, budgetStep, BudgetIs, hasPair, pairsOf, sumAt, LighterIs};
 
@@ -131,7 +132,8 @@ fn raise(
     }
 }
 
-// The least budget from q on of the task at the place i with the blocking b; it passes with q where this blocking was tested before.
+// The least budget from q on of the task at the place i with the blocking b; it passes with q where this blocking was tested before. With q its need is not
+// met before `start`.
 fn task_budget(
     separations: &[u64; 16],
     costs: &[u64; 16],
@@ -142,14 +144,18 @@ fn task_budget(
     b: u64,
     tested: u64,
     q: u64,
-) -> Least
-    requires { ⌜ FineTimes (now separations) (now costs) n × (i < n) × (deadline ≤ numberLimit) × (period ≤ numberLimit) × (b ≤ numberLimit) × (1 ≤ q) × (q ≤ period) ⌝ }
-    ensures { λ r. ⌜ r ≡ budgetAgain period b tested (dueTask (now (costs .entry)) i deadline) (drop (suc i) (timesOf (now (separations .entry)) (now (costs .entry)) n)) q ⌝ }
+    start: u64,
+) -> Passed
+    requires { ⌜ FineTimes (now separations) (now costs) n × (i < n) × (deadline ≤ numberLimit) × (period ≤ numberLimit) × (b ≤ numberLimit) × (1 ≤ q) × (q ≤ period) × (1 ≤ start) × NoneMet period q b (dueTask (now costs) i deadline) (drop (suc i) (timesOf (now separations) (now costs) n)) start ⌝ }
+    ensures { λ r. ⌜ PassedIs period b (dueTask (now (costs .entry)) i deadline) (drop (suc i) (timesOf (now (separations .entry)) (now (costs .entry)) n)) (budgetAgain period b tested (dueTask (now (costs .entry)) i deadline) (drop (suc i) (timesOf (now (separations .entry)) (now (costs .entry)) n)) q) r ⌝ }
 {
     if b == tested {
-        return Least::At(q);
+        return Passed {
+            budget: Least::At(q),
+            time: start,
+        };
     }
-    budget::least_budget(separations, costs, n, i, deadline, period, b, q)
+    budget::least_budget(separations, costs, n, i, deadline, period, b, q, start)
 }
 
 // The least budget with which all tasks pass, and the blockings with which they do; none where there is no such budget.
@@ -177,11 +183,18 @@ fn budget_under(
 {
     let mut blocked = tested;
     let mut budget = q;
+    // Before this time the need of the task above, blocked for at most `above` ticks, is not met with the budget.
+    let mut time: u64 = 1;
+    let mut above: u64 = 0;
     let mut i = n;
     while 0 < i {
         let k = i - 1;
         let b = task_set::blocking_at(below, ceilings, m, k);
-        match task_budget(
+        // A task that asks for less than the one above it may be met earlier.
+        if costs[k] + b < above {
+            time = 1;
+        }
+        let passed = task_budget(
             separations,
             costs,
             n,
@@ -191,10 +204,15 @@ fn budget_under(
             b,
             blocked[k],
             budget,
-        ) {
+            time,
+        );
+        let answer = passed.budget;
+        match answer {
             Least::At(least) => {
                 blocked[k] = b;
                 budget = least;
+                time = passed.time;
+                above = b;
                 i = k;
             }
             Least::Nothing => {

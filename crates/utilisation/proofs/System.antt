@@ -26,17 +26,17 @@ demand-shares [] [] none t = omega (arith, zero-mul t)
 demand-shares (r ∷ rows) (s ∷ shares) (more a rest) t =
     let n = ceilDiv t (r .period) in
     let first : s * t ≤ slopeScale * (n * rowSum r) =
-        omega (
-          arith,
-          mul-le-mul-left s (ceil-covers t (r .period) (a .0)),
-          mul-comm (r .period) s,
-          mul-left-comm s n (r .period),
-          mul-comm s (r .period),
-          mul-le-mul-left n (a .1),
-          mul-assoc n (r .budget) slopeScale,
-          mul-comm (n * r .budget) slopeScale,
-          mul-add n (r .budget) (r .holding),
-        ) in
+    omega (
+      arith,
+      mul-le-mul-left s (ceil-covers t (r .period) (a .0)),
+      mul-comm (r .period) s,
+      mul-left-comm s n (r .period),
+      mul-comm s (r .period),
+      mul-le-mul-left n (a .1),
+      mul-assoc n (r .budget) slopeScale,
+      mul-comm (n * r .budget) slopeScale,
+      mul-add n (r .budget) (r .holding),
+    ) in
     omega (arith, first, demand-shares rows shares rest t, add-mul s (sum shares) t)
 
 pub rows-share : (rows : List Row) (shares : List ℕ) → Each AtLeast rows shares → passesSystem rows ≡ true → sum shares ≤ slopeScale

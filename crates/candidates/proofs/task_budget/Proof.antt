@@ -8,6 +8,7 @@ use borrow.Author.Needs.{needs}
 use Rattle.task_set.specs.declared.Task.{Task}
 use Rattle.task_set.specs.ByColumn.{timesOf}
 use Rattle.budget.specs.Code.{dueTask}
+use Rattle.budget.proofs.Narrow.{passed-at}
 use Rattle.candidates.proofs.Budgets.{again-same, again-other}
 use Rattle.candidates.proofs.task_budget.Statement.{statement}
 use Rattle.candidates.proofs.task_budget.Tie as tie
@@ -22,7 +23,8 @@ higher s = drop (suc (s .args .i)) (timesOf (s .args .separations .now) (s .args
 returns : tie.Need-returns
 returns c =
     let s = c .before in
-    sym (again-same (s .args .period) (s .args .b) (task s) (higher s) (s .args .tested) (s .args .q) (c .if1 .taken))
+    let same = again-same (s .args .period) (s .args .b) (task s) (higher s) (s .args .tested) (s .args .q) (c .if1 .taken) in
+    passed-at (s .args .period) (s .args .b) (task s) (higher s) _ (s .args .q) (s .args .start) same (s .pre .7) (s .pre .8)
 
 least-budget-requires : tie.Need-least-budget-requires
 least-budget-requires c κs = search needs
@@ -30,7 +32,9 @@ least-budget-requires c κs = search needs
 returns-2 : tie.Need-returns-2
 returns-2 c =
     let s = c .before .before in
-    c .least-budget .ensures ∙ sym (again-other (s .args .period) (s .args .b) (task s) (higher s) (s .args .tested) (s .args .q) (c .before .if1 .left))
+    let other = again-other (s .args .period) (s .args .b) (task s) (higher s) (s .args .tested) (s .args .q) (c .before .if1 .left) in
+    let r = c .least-budget .ensures in
+    record { value = r .value ∙ sym other; some = r .some; early = r .early }
 
 pub task-budget-spec : {M : Type 1} → statement M
 task-budget-spec = tie.close (tie.spec returns least-budget-requires returns-2)
