@@ -30,9 +30,10 @@ use Rattle.selection.specs.Code.{offersOf, ChoiceIs}
 use Rattle.reader.specs.declared.PlanFile.{PlanFile}
 use Rattle.offers.specs.declared.Offers.{Offers}
 use Rattle.offers.specs.declared.PlanRows.{PlanRows}
-use Rattle.offers.specs.Gathered.{listIn, FineParts, Gathered}
+use Rattle.offers.specs.Gathered.{listIn, FineParts, MissingIs, Gathered, isOver}
 use Rattle.offers.specs.Least.{partRows, rowsIn, noRows, planRowsWhen, planRowsOf}
 use Rattle.offers.proofs.Rows.{offers-are}
+use Rattle.offers.proofs.Over.{over-none}
 
 -- the rows of a choice, put into the array one after another
 module _ (periods sums holdings : List ℕ) (n : ℕ) where
@@ -102,12 +103,13 @@ module _ (f : PlanFile) where
         ap (λ (x : Rows). record { outcome = Done; rows = x }) (e ∙ ap (rowsFrom (leastLoaded (choices (rowsIn f)))) (sym rows-length)) ∙ sym (planned-is Done (yes-next (ask (NoBudget (firstOf isEmpty (rowsIn f))) _) (ask NoChoice (some passesSystem (choices (rowsIn f))) ∷ []) yes-budgets ∙ yes-next (ask NoChoice _) [] passing))
 
 -- the number of the first part without a kept pair is the place of the refusal
-pub missing-refused : (f : PlanFile) (o : Offers) → Gathered f o → 1 ≤ o .missing → noRows (NoBudget (o .missing)) ≡ planRowsOf f
-missing-refused f o g some = go (o .missing) refl
-  where
-    go : (m : ℕ) → o .missing ≡ m → noRows (NoBudget (o .missing)) ≡ planRowsOf f
-    go zero e = absurd (omega arith)
-    go (suc k) e = ap (λ (m : ℕ). noRows (NoBudget m)) e ∙ no-budget f k (omega (arith, g .within)) (g .none k (sym e)) (λ j l. g .before j (omega arith))
+pub missing-refused : (f : PlanFile) (m : ℕ) → MissingIs f m → 1 ≤ m → noRows (NoBudget m) ≡ planRowsOf f
+missing-refused f zero is some = absurd (omega arith)
+missing-refused f (suc k) is some = no-budget f k (omega (arith, is .within)) (is .none k refl) (λ j l. is .before j (omega arith))
+
+-- the tasks of the parts ask for more than the processor, and each part has a kept pair
+pub over-refused : (f : PlanFile) → FineParts f → MissingIs f 0 → isOver f ≡ true → noRows NoChoice ≡ planRowsOf f
+over-refused f fine is over = no-choice f (is .all refl) (over-none f fine over)
 
 -- what was selected from the columns, said of the file
 module _ (f : PlanFile) (fine : FineParts f) (o : Offers) (g : Gathered f o) (all : o .missing ≡ 0) (c : Choice) (is : ChoiceIs (o .periods) (o .budgets) (o .holdings) (o .counts) (f .count) c) where

@@ -5,19 +5,26 @@
 --   budgetIn kept i, holdingIn kept i == Q and X of the pair at the place i
 --   Stored value k n before after == `after` is `before` with n values from the place 121 k on, and what is before that place as it was
 --   OfferedAt f .. k == the arrays hold the period and the kept pairs of the part at the place k, and there are some
---   Gathered f o     == o holds those of all parts; or its `missing` is the number, from 1, of the first part without a kept pair
+--   MissingIs f m    == m is the number, from 1, of the first part without a kept pair, or 0
+--   Gathered f o     == o holds those of all parts; or its `missing` is that number
+--   isOver f         == the tasks of all parts together ask for more than the processor
 -- Assumes nothing.
 use Prim.Native.Nat.{ℕ, suc, _+_, _*_, _≤_, _<_}
 use mathlib.Core.Path.{_≡_}
-use mathlib.Core.List.{List}
+use mathlib.Core.Bool.{Bool}
+use mathlib.Core.List.{List, map}
+use lib.Dec.{ltb}
 use lib.ListN.{length, getD}
+use Rattle.least.specs.Lists.{sum, countFrom}
 use Rattle.refusal.specs.Limits.{numberLimit}
+use Rattle.envelope.specs.Envelope.{slopeScale}
 use Rattle.task_set.specs.declared.Part.{Part}
 use Rattle.task_set.specs.Tasks.{tasksOf}
 use Rattle.task_set.specs.Fine.{FinePart}
 use Rattle.candidates.specs.declared.Pair.{Pair}
 use Rattle.candidates.specs.declared.Kept.{Kept}
 use Rattle.candidates.specs.Candidates.{pair, keptList}
+use Rattle.utilisation.specs.Utilisation.{shareIn}
 use Rattle.reader.specs.declared.PlanFile.{PlanFile}
 use Rattle.reader.specs.Reader.{blankPart}
 use Rattle.offers.specs.declared.Offers.{Offers}
@@ -52,8 +59,18 @@ pub record OfferedAt (f : PlanFile) (periods counts budgets holdings : List ℕ)
   pub budgets-are : (i : ℕ) → i < length (listIn f k) → getD budgets (121 * k + i) 0 ≡ getD (listIn f k) i (pair 0 0) .budget
   pub holdings-are : (i : ℕ) → i < length (listIn f k) → getD holdings (121 * k + i) 0 ≡ getD (listIn f k) i (pair 0 0) .holding
 
+pub record MissingIs (f : PlanFile) (m : ℕ) : Type 0 where
+  pub all : m ≡ 0 → (k : ℕ) → k < f .count → 1 ≤ length (listIn f k)
+  pub within : m ≤ f .count
+  pub before : (k : ℕ) → suc k < m → 1 ≤ length (listIn f k)
+  pub none : (k : ℕ) → suc k ≡ m → length (listIn f k) ≡ 0
+
 pub record Gathered (f : PlanFile) (o : Offers) : Type 0 where
   pub all : o .missing ≡ 0 → (k : ℕ) → k < f .count → OfferedAt f (o .periods) (o .counts) (o .budgets) (o .holdings) k
-  pub within : o .missing ≤ f .count
-  pub before : (k : ℕ) → suc k < o .missing → 1 ≤ length (listIn f k)
-  pub none : (k : ℕ) → suc k ≡ o .missing → length (listIn f k) ≡ 0
+  pub first : MissingIs f (o .missing)
+
+abbrev pub sharesOf : PlanFile → ℕ → List ℕ
+sharesOf f n = map (λ k. shareIn (tasksOf (partIn f k))) (countFrom 0 n)
+
+unfoldable pub isOver : PlanFile → Bool
+isOver f = ltb slopeScale (sum (sharesOf f (f .count)))

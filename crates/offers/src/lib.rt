@@ -1,16 +1,18 @@
 // The kept lists of all parts of a file, as rows to choose from: the pair at the place i of the part k, both from 0, at 121 k + i.
 use candidates::Kept;
+use envelope::SCALE;
 use load::Row;
 use load::Rows;
 use reader::PlanFile;
 use refusal::Outcome;
 use refusal::Refusal;
 ghost use mathlib.Core.Path.{_≡_};
+ghost use mathlib.Core.Bool.{true};
 ghost use Prim.Native.Nat.{_≤_, _<_};
 ghost use lib.ListN.{length};
 ghost use Rattle.load.specs.ByColumn.{rowsBy, FineColumns};
 ghost use Rattle.load.specs.Weigh.{rowsFrom};
-ghost use Rattle.offers.specs.Gathered.{FineParts, budgetIn, holdingIn, Stored, Gathered};
+ghost use Rattle.offers.specs.Gathered.{FineParts, budgetIn, holdingIn, Stored, MissingIs, Gathered, isOver};
 ghost use Rattle.offers.specs.Least.{noRows, planRowsOf};
 
 // The pairs of the part k at its places.
@@ -117,12 +119,60 @@ fn no_rows(r: Refusal) -> PlanRows
     }
 }
 
+// Whether the tasks of all parts together ask for more than the processor: no choice passes then.
+fn is_over(f: PlanFile) -> bool
+    requires { ⌜ FineParts f ⌝ }
+    ensures { λ b. ⌜ b ≡ isOver f ⌝ }
+{
+    let mut sum: u64 = 0;
+    let mut k = 0;
+    while k < f.count {
+        let p = f.parts[k];
+        let part = p.part;
+        sum += utilisation::share_of(part);
+        k += 1;
+    }
+    SCALE < sum
+}
+
+// The number of the first part without a kept pair, from 1; 0 where each has one.
+fn first_missing(f: PlanFile) -> usize
+    requires { ⌜ FineParts f ⌝ }
+    ensures { λ m. ⌜ MissingIs f m ⌝ }
+{
+    let mut k = 0;
+    while k < f.count {
+        let p = f.parts[k];
+        let part = p.part;
+        if !candidates::has_pair(part) {
+            return k + 1;
+        }
+        k += 1;
+    }
+    0
+}
+
+// Questions 10 and 11 where the parts ask for more than the processor: no kept list is needed.
+fn over_rows(f: PlanFile) -> PlanRows
+    requires { ⌜ FineParts f × (isOver f ≡ true) ⌝ }
+    ensures { λ r. ⌜ r ≡ planRowsOf f ⌝ }
+{
+    let number = first_missing(f);
+    if 0 < number {
+        return no_rows(Refusal::NoBudget(number as u64));
+    }
+    no_rows(Refusal::NoChoice)
+}
+
 // Questions 10 and 11 of a file that was read, and the rows of least load.
 pub fn plan_rows(f: PlanFile) -> PlanRows
     requires { ⌜ FineParts f × (1 ≤ f .count) ⌝ }
     ensures { λ r. ⌜ r ≡ planRowsOf f ⌝ }
 {
     let n = f.count;
+    if is_over(f) {
+        return over_rows(f);
+    }
     let offers = offers_of(f);
     let missing = offers.missing;
     if missing != 0 {

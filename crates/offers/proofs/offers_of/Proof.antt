@@ -88,9 +88,12 @@ returns c =
     let z = at .inv .3 in
     record {
       all = λ e k h. at .inv .0 .each k (omega arith);
-      within = omega arith;
-      before = λ k h. absurd (omega arith);
-      none = λ k e. absurd (omega arith);
+      first = record {
+        all = λ e k h. at .inv .0 .each k (omega arith) .some;
+        within = omega arith;
+        before = λ k h. absurd (omega arith);
+        none = λ k e. absurd (omega arith);
+      };
     }
 
 returns-2 : tie.Need-returns-2 Inv-loop μ-loop
@@ -99,9 +102,12 @@ returns-2 c =
     let n = count (c .before) in
     record {
       all = λ e. absurd (omega arith);
-      within = let l = c .before .before .before .before .loop-test .taken in omega arith;
-      before = λ j h. at .inv .0 .each j (omega arith) .some;
-      none = λ j e. let same : j ≡ at .k = omega arith in rw same (sym n ∙ c .if1 .taken);
+      first = record {
+        all = λ e. absurd (omega arith);
+        within = let l = c .before .before .before .before .loop-test .taken in omega arith;
+        before = λ j h. at .inv .0 .each j (omega arith) .some;
+        none = λ j e. let same : j ≡ at .k = omega arith in rw same (sym n ∙ c .if1 .taken);
+      };
     }
 
 pub offers-of-spec : {M : Type 1} → statement M
