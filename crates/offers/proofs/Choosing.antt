@@ -112,12 +112,12 @@ pub over-refused : (f : PlanFile) → FineParts f → MissingIs f 0 → isOver f
 over-refused f fine is over = no-choice f (is .all refl) (over-none f fine over)
 
 -- what was selected from the columns, said of the file
-module _ (f : PlanFile) (fine : FineParts f) (o : Offers) (g : Gathered f o) (all : o .missing ≡ 0) (c : Choice) (is : ChoiceIs (o .periods) (o .budgets) (o .holdings) (o .counts) (f .count) c) where
+module _ (f : PlanFile) (fine : FineParts f) (o : Offers) (g : Gathered f o) (under : o .over ≡ false) (all : o .missing ≡ 0) (c : Choice) (is : ChoiceIs (o .periods) (o .budgets) (o .holdings) (o .counts) (f .count) c) where
   filled : (k : ℕ) → k < f .count → 1 ≤ length (listIn f k)
-  filled k h = g .all all k h .some
+  filled k h = g .all under all k h .some
 
   same-rows : offersOf (o .periods) (o .budgets) (o .holdings) (o .counts) (f .count) ≡ rowsIn f
-  same-rows = offers-are f fine (o .periods) (o .counts) (o .budgets) (o .holdings) (g .all all)
+  same-rows = offers-are f fine (o .periods) (o .counts) (o .budgets) (o .holdings) (g .all under all)
 
   found-is : c .found ≡ some passesSystem (choices (rowsIn f))
   found-is = is .found ∙ ap (λ (kept : List (List Row)). some passesSystem (choices kept)) same-rows

@@ -5,9 +5,8 @@ use native.Mathlib.Omega.{arith}
 use mathlib.Core.Path.{_≡_, refl, sym}
 use mathlib.Core.Bool.{Bool, true, false, not, false≢true}
 use mathlib.Core.List.{List, [], _∷_, map, List·Memᴰ, List·Memᴰ·head, List·Memᴰ·tail}
-use lib.Dec.{ltb}
 use lib.ListN.{length}
-use borrow.Author.Tests.{ltb-true}
+use borrow.Author.Tests.{lt-ltb, ltb-true}
 use Rattle.least.specs.Each.{Each, none, more}
 use Rattle.least.specs.Lists.{sum, some, isEmpty, countFrom}
 use Rattle.envelope.specs.Envelope.{slopeScale}
@@ -45,13 +44,14 @@ module _ (f : PlanFile) where
   unfolding sharesFrom countFrom sum
   shares-next k h = let e : f .count - k ≡ suc (f .count - suc k) = omega arith in rw e refl
 
-  pub shares-end : (k : ℕ) → f .count ≤ k → sharesFrom k ≡ 0
-  unfolding sharesFrom countFrom sum
-  shares-end k h = let e : f .count - k ≡ 0 = omega arith in rw e refl
+  from-0 : sharesFrom 0 ≡ sum (sharesOf f (f .count))
+  unfolding sharesFrom
+  from-0 = let e : f .count - 0 ≡ f .count = omega arith in rw e refl
 
-  pub over-is : isOver f ≡ ltb slopeScale (sharesFrom 0)
-  unfolding isOver sharesFrom
-  over-is = let e : f .count - 0 ≡ f .count = omega arith in rw e refl
+  -- those of the parts before the place k, and of the one there, are above the processor
+  pub over-at : (share k r : ℕ) → share + sharesFrom k ≡ sharesFrom 0 → k < f .count → r ≡ shareIn (tasksOf (partIn f k)) → slopeScale < share + r → isOver f ≡ true
+  unfolding isOver
+  over-at share k r e h is l = lt-ltb slopeScale (sum (sharesOf f (f .count))) (omega (arith, shares-next k h, from-0))
 
   -- whether the part at the place k has a kept pair
   pub pair-some : (k : ℕ) → hasPair (partIn f k .period) (tasksOf (partIn f k)) (partIn f k .locks) ≡ true → 1 ≤ length (listIn f k)

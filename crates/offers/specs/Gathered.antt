@@ -6,12 +6,12 @@
 --   Stored value k n before after == `after` is `before` with n values from the place 121 k on, and what is before that place as it was
 --   OfferedAt f .. k == the arrays hold the period and the kept pairs of the part at the place k, and there are some
 --   MissingIs f m    == m is the number, from 1, of the first part without a kept pair, or 0
---   Gathered f o     == o holds those of all parts; or its `missing` is that number
 --   isOver f         == the tasks of all parts together ask for more than the processor
+--   Gathered f o     == o holds those of all parts; or its `missing` is that number; or it is over
 -- Assumes nothing.
 use Prim.Native.Nat.{ℕ, suc, _+_, _*_, _≤_, _<_}
 use mathlib.Core.Path.{_≡_}
-use mathlib.Core.Bool.{Bool}
+use mathlib.Core.Bool.{Bool, true, false}
 use mathlib.Core.List.{List, map}
 use lib.Dec.{ltb}
 use lib.ListN.{length, getD}
@@ -65,12 +65,13 @@ pub record MissingIs (f : PlanFile) (m : ℕ) : Type 0 where
   pub before : (k : ℕ) → suc k < m → 1 ≤ length (listIn f k)
   pub none : (k : ℕ) → suc k ≡ m → length (listIn f k) ≡ 0
 
-pub record Gathered (f : PlanFile) (o : Offers) : Type 0 where
-  pub all : o .missing ≡ 0 → (k : ℕ) → k < f .count → OfferedAt f (o .periods) (o .counts) (o .budgets) (o .holdings) k
-  pub first : MissingIs f (o .missing)
-
 abbrev pub sharesOf : PlanFile → ℕ → List ℕ
 sharesOf f n = map (λ k. shareIn (tasksOf (partIn f k))) (countFrom 0 n)
 
 unfoldable pub isOver : PlanFile → Bool
 isOver f = ltb slopeScale (sum (sharesOf f (f .count)))
+
+pub record Gathered (f : PlanFile) (o : Offers) : Type 0 where
+  pub over-is : o .over ≡ true → isOver f ≡ true
+  pub all : o .over ≡ false → o .missing ≡ 0 → (k : ℕ) → k < f .count → OfferedAt f (o .periods) (o .counts) (o .budgets) (o .holdings) k
+  pub first : o .over ≡ false → MissingIs f (o .missing)

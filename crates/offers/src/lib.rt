@@ -31,8 +31,10 @@ fn store(kept: Kept, k: usize, budgets: &mut [u64], holdings: &mut [u64])
     }
 }
 
-// The rows that each part offers: its period, the count of its kept pairs, and the pairs; and the number of the first part without one, from 1, or 0.
+// The rows that each part offers: its period, the count of its kept pairs, and the pairs; and the number of the first part without one, from 1, or 0. Or the tasks
+// of all parts together ask for more than the processor: no choice passes then.
 pub struct Offers {
+    pub over: bool,
     pub missing: usize,
     pub periods: [u64; 16],
     pub counts: [usize; 16],
@@ -49,10 +51,17 @@ pub fn offers_of(f: PlanFile) -> Offers
     let mut budgets = [0u64; 1936];
     let mut holdings = [0u64; 1936];
     let mut missing = 0;
+    let mut over = false;
+    let mut share: u64 = 0;
     let mut k = 0;
     while k < f.count {
         let p = f.parts[k];
         let part = p.part;
+        share += utilisation::share_of(part);
+        if SCALE < share {
+            over = true;
+            break;
+        }
         let kept = candidates::kept_of(part);
         let count = kept.count;
         if count == 0 {
@@ -65,6 +74,7 @@ pub fn offers_of(f: PlanFile) -> Offers
         k += 1;
     }
     Offers {
+        over,
         missing,
         periods,
         counts,
@@ -119,22 +129,6 @@ fn no_rows(r: Refusal) -> PlanRows
     }
 }
 
-// Whether the tasks of all parts together ask for more than the processor: no choice passes then.
-fn is_over(f: PlanFile) -> bool
-    requires { ⌜ FineParts f ⌝ }
-    ensures { λ b. ⌜ b ≡ isOver f ⌝ }
-{
-    let mut sum: u64 = 0;
-    let mut k = 0;
-    while k < f.count {
-        let p = f.parts[k];
-        let part = p.part;
-        sum += utilisation::share_of(part);
-        k += 1;
-    }
-    SCALE < sum
-}
-
 // The number of the first part without a kept pair, from 1; 0 where each has one.
 fn first_missing(f: PlanFile) -> usize
     requires { ⌜ FineParts f ⌝ }
@@ -170,10 +164,10 @@ pub fn plan_rows(f: PlanFile) -> PlanRows
     ensures { λ r. ⌜ r ≡ planRowsOf f ⌝ }
 {
     let n = f.count;
-    if is_over(f) {
+    let offers = offers_of(f);
+    if offers.over {
         return over_rows(f);
     }
-    let offers = offers_of(f);
     let missing = offers.missing;
     if missing != 0 {
         return no_rows(Refusal::NoBudget(missing as u64));
