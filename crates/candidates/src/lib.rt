@@ -49,16 +49,10 @@ fn next_ceiling(
     x: u64,
     hint: Hint,
 ) -> Lowest
-    requires { ⌜ FineTimes (now separations) (now costs) n × (1 ≤ g) × (g ≤ numberLimit) × (limit ≤ numberLimit) × (ceiling ≤ 16) × HintIs (timesOf (now separations) (now costs) n) hint ⌝ }
+    requires { ⌜ FineTimes (now separations) (now costs) n × (1 ≤ g) × (g ≤ numberLimit) × (limit ≤ numberLimit) × (ceiling ≤ 16) × (x < time) × HintIs (timesOf (now separations) (now costs) n) hint ⌝ }
     ensures found { λ r. ⌜ r .ceiling ≡ nextCeiling (timesOf (now (separations .entry)) (now (costs .entry)) n) g limit ceiling time x ⌝ }
     ensures told { λ r. ⌜ HintIs (timesOf (now (separations .entry)) (now (costs .entry)) n) (r .hint) ⌝ }
 {
-    if time <= x {
-        return Lowest {
-            ceiling: Ceiling::Held(ceiling, time),
-            hint,
-        };
-    }
     if time <= NUMBER_LIMIT {
         return holding::lowest_within(separations, costs, n, g, limit, ceiling + 1, x, hint);
     }
@@ -94,6 +88,13 @@ fn raise(
     let mut hint = holding::no_hint();
     let mut j = 0;
     while j < m {
+        let time = held[j];
+        // A lock that is held for at most x keeps its ceiling.
+        if time <= x {
+            holding = least::larger(holding, time);
+            j += 1;
+            continue;
+        }
         let next = next_ceiling(
             separations,
             costs,
@@ -101,7 +102,7 @@ fn raise(
             longest[j],
             limits[j],
             raised[j],
-            held[j],
+            time,
             x,
             hint,
         );
