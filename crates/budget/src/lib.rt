@@ -79,7 +79,9 @@ fn enough_at(
     if t < need {
         return to;
     }
-    let mut least = from;
+    // No budget gives more than its share of the time.
+    let share = period * need / t;
+    let mut least = least::smaller(to, least::larger(from, share));
     let mut most = to;
     while least < most {
         let middle = least + (most - least) / 2;
