@@ -1,17 +1,15 @@
 -- The least budget that supplies x ticks in t ticks, by halving.
 --   enough P x t Q == Q supplies x ticks in t ticks
 -- Assumes nothing.
-use Prim.Native.Nat.{ℕ, suc, _+_, _*_, _/_, min, max, _≤_, _<_}
-use native.Mathlib.Nat.{suc-mul, mul-le-mul-left, le-div-iff-mul-le}
+use Prim.Native.Nat.{ℕ, suc, _+_, _≤_, _<_}
 use native.Mathlib.Omega.{arith}
-use native.Mathlib.Decide.{decLe, decLt}
-use mathlib.Core.Path.{_≡_}
+use native.Mathlib.Decide.{decLe}
 use mathlib.Core.Bool.{Bool}
 use lib.Dec.{leb}
 use borrow.Author.Tests.{le-leb, lt-leb, leb-true, leb-false}
 use Rattle.least.proofs.Bisect.{Rising, Bracket, bracket-down, bracket-up}
 use Rattle.supply.specs.Supply.{supplyOf, ReachIs}
-use Rattle.supply.proofs.SupplyLaws.{supply-mono-Q, supply-le-t, supply-share}
+use Rattle.supply.proofs.SupplyLaws.{supply-mono-Q, supply-le-t}
 use Rattle.budget.specs.Code.{EnoughIs}
 
 abbrev pub enough : ℕ → ℕ → ℕ → ℕ → Bool
@@ -26,25 +24,6 @@ module _ (P x t from to : ℕ) (o : 1 ≤ from) (u : to ≤ suc P) where
     enough = λ q. absurd (omega arith);
     least = λ m p q. omega (arith, supply-le-t P m t (omega arith) (omega arith));
   }
-
-  -- no budget below x's share of the time is enough
-  pub enough-begin : (start : ℕ) → from ≤ to → 1 ≤ t → start ≡ min to (max from (P * x / t)) → Bracket (enough P x t) from to start to
-  enough-begin start l s e = record {
-    some = o;
-    from = omega arith;
-    order = omega arith;
-    top = omega arith;
-    passes = λ h. absurd (omega arith);
-    none = λ v p h. lt-leb x (supplyOf P v t) (less v p h (decLt (supplyOf P v t) x));
-  }
-    where
-      at-least : (v : ℕ) → (supplyOf P v t < x → ⊥) → P * x ≤ P * supplyOf P v t
-      at-least v q = mul-le-mul-left P (omega arith)
-
-      less : (v : ℕ) → from ≤ v → v < start → Dec (supplyOf P v t < x) → supplyOf P v t < x
-      less v p h (yes q) = q
-      less v p h (no q) =
-          absurd (omega (arith, le-div-iff-mul-le {k = t} {x = suc v} {y = P * x} s .0 (omega arith), suc-mul v t, supply-share P v t (omega arith) (omega arith), at-least v q))
 
   module _ (low high : ℕ) (k : Bracket (enough P x t) from to low high) where
     -- the budget m supplies x ticks in r ticks or more

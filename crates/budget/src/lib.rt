@@ -79,9 +79,7 @@ fn enough_at(
     if t < need {
         return to;
     }
-    // No budget gives more than its share of the time.
-    let share = period * need / t;
-    let mut least = least::smaller(to, least::larger(from, share));
+    let mut least = from;
     let mut most = to;
     while least < most {
         let middle = least + (most - least) / 2;

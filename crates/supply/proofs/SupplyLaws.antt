@@ -1,7 +1,7 @@
 -- Laws of the supply. `reach`: a supply of x or more is there from a certain t on. Every other law follows from it.
 -- Assumes nothing.
 use Prim.Native.Nat.{ℕ, zero, suc, _+_, _-_, _*_, max, _≤_, _<_}
-use native.Mathlib.Nat.{le-refl, le-trans, mul-comm, mul-assoc, mul-right-comm, mul-add, add-mul, suc-mul, zero-mul, mul-le-mul-left, mul-le-mul-right, add-sub-cancel, sub-add-cancel, add-le-add, mul-le-mul, sub-le-sub-left}
+use native.Mathlib.Nat.{le-refl, le-trans, mul-comm, mul-assoc, mul-right-comm, mul-add, add-mul, suc-mul, zero-mul, mul-le-mul-right, add-sub-cancel, sub-add-cancel, add-le-add, mul-le-mul, sub-le-sub-left}
 use native.Mathlib.Numerals.{add-one, sub-one}
 use native.Mathlib.Omega.{arith}
 use native.Mathlib.Decide.{decLe, decLt}
@@ -198,11 +198,3 @@ supply-step P Q t h b = go (supplyOf P Q (suc t)) (le-refl _)
     go (suc (suc x)) l =
         let r : reach P Q (suc x) ≤ t = omega (arith, reach-next P Q (suc x) h, reach-needed P Q (suc t) (suc (suc x)) h b (omega arith) l) in
         omega (arith, reach-enough P Q t (suc x) h b r)
-
--- what is supplied in t ticks is at most the budget's share of them
-pub supply-share : (P Q t : ℕ) → 1 ≤ Q → Q ≤ P → P * supplyOf P Q t ≤ Q * t
-supply-share P Q t h b = go (supplyOf P Q t) refl
-  where
-    go : (x : ℕ) → supplyOf P Q t ≡ x → P * supplyOf P Q t ≤ Q * t
-    go zero e = omega (arith, ap (λ (x : ℕ). P * x) e)
-    go (suc x) e = omega (arith, reach-line P Q (supplyOf P Q t) h b, mul-le-mul-left Q (reach-needed P Q t (supplyOf P Q t) h b (omega arith) (le-refl _)))

@@ -8,7 +8,7 @@ use mathlib.Core.Bool.{true}
 use mathlib.Core.List.{List, [], _∷_, List·Memᴰ, List·Memᴰ·head, List·Memᴰ·tail}
 use Rattle.least.specs.Lists.{sum}
 use Rattle.supply.specs.Supply.{supplyOf}
-use Rattle.supply.proofs.SupplyLaws.{supply-share}
+use Rattle.supply.proofs.SupplyLaws.{reach, reach-needed, reach-line}
 use Rattle.envelope.specs.Envelope.{slopeScale}
 use Rattle.envelope.proofs.Under.{slope-under}
 use Rattle.task_set.specs.declared.Task.{Task}
@@ -17,6 +17,14 @@ use Rattle.task_set.specs.Blocking.{Setting, blockingOf, needOf}
 use Rattle.budget.specs.Budget.{passes}
 use Rattle.budget.proofs.Passing.{Met, passes-paper}
 use Rattle.utilisation.specs.Utilisation.{share, shareIn}
+
+-- what is supplied in t ticks is at most the budget's share of them
+supply-share : (P Q t : ℕ) → 1 ≤ Q → Q ≤ P → P * supplyOf P Q t ≤ Q * t
+supply-share P Q t h b = go (supplyOf P Q t) refl
+  where
+    go : (x : ℕ) → supplyOf P Q t ≡ x → P * supplyOf P Q t ≤ Q * t
+    go zero e = omega (arith, ap (λ (x : ℕ). P * x) e)
+    go (suc x) e = omega (arith, reach-line P Q (supplyOf P Q t) h b, mul-le-mul-left Q (reach-needed P Q t (supplyOf P Q t) h b (omega arith) (le-refl _)))
 
 -- the tasks ask for at least their share of any time
 demand-share : (ts : List Task) → ((k : Task) → List·Memᴰ k ts → 1 ≤ k .separation) → (t : ℕ) → shareIn ts * t ≤ slopeScale * demandIn ts t

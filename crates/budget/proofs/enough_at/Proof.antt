@@ -1,27 +1,25 @@
 -- `budget::enough_at` meets its contract. The invariant: the least budget that is enough is from `least` to `most`.
 -- Assumes nothing.
-use Prim.Native.Nat.{ℕ, suc, _+_, _-_, _*_, min, _≤_}
+use Prim.Native.Nat.{ℕ, suc, _+_, _-_, _≤_}
 use mathlib.Core.Path.{_≡_, ap, _∙_, subst}
 use native.Mathlib.Numerals.{add-one}
 use native.Mathlib.Omega.{arith}
 use lib.ListN.{drop, getD}
-use Rattle.least.proofs.Round.{product}
-use Rattle.least.proofs.Bisect.{Bracket}
-use Rattle.refusal.specs.Limits.{numberLimit}
+use Rattle.least.proofs.Bisect.{Bracket, bracket-start}
 use Rattle.demand.specs.Demand.{demandFrom}
 use Rattle.task_set.specs.Blocking.{needOf}
 use Rattle.task_set.specs.ByColumn.{timesOf, FineTime}
 use Rattle.task_set.proofs.Times.{times-demand, times-fine}
 use Rattle.budget.specs.Code.{dueTask, EnoughIs}
-use Rattle.budget.proofs.Enough.{enough, enough-none, enough-begin, enough-down, enough-up, enough-end}
+use Rattle.budget.proofs.Enough.{enough, enough-none, enough-down, enough-up, enough-end}
 use Rattle.budget.proofs.enough_at.Statement.{statement}
 use Rattle.budget.proofs.enough_at.Tie as tie
 
 abbrev Inv-loop : tie.InvT-loop
-Inv-loop separations costs n i t period b from to own need share least₀ most₀ least most = Bracket (enough period need t) from to least most
+Inv-loop separations costs n i t period b from to own need least₀ most₀ least most = Bracket (enough period need t) from to least most
 
 abbrev μ-loop : tie.MeasureT-loop
-μ-loop separations costs n i t period b from to own need share least₀ most₀ least most = most - least
+μ-loop separations costs n i t period b from to own need least₀ most₀ least most = most - least
 
 -- what the task needs
 abbrev needed : tie.Start Inv-loop μ-loop → ℕ
@@ -73,30 +71,10 @@ returns-2 c =
     let s = c .before .before .before .before in
     enough-none (s .args .period) (needed s) (s .args .t) (s .args .from) (s .args .to) (s .pre .5) (s .pre .7) (s .pre .6) (omega (arith, is (c .before), c .if2 .taken))
 
--- it is some, and at most t
-need-most : (c : tie.Else2 Inv-loop μ-loop) →
-    let s = c .before .before .before .before in
-    s .args .period * (getD (s .args .costs .now) (s .args .i) 0 + s .args .b + c .before .demand-from .result) ≤ numberLimit * numberLimit
-need-most c =
-    let s = c .before .before .before .before in
-    product numberLimit numberLimit (s .pre .3) (omega (arith, c .if2 .left))
-
-mul-share : tie.Need-mul-share Inv-loop μ-loop
-mul-share c = omega (arith, need-most c)
-
-div-share : tie.Need-div-share Inv-loop μ-loop
-div-share c = omega (arith, fine (c .before .before .before .before))
-
-larger-requires : tie.Need-larger-requires Inv-loop μ-loop
-larger-requires c κs = tt
-
-smaller-requires : tie.Need-smaller-requires Inv-loop μ-loop
-smaller-requires c κs = tt
-
 loop-holds : tie.Need-loop-holds Inv-loop μ-loop
 loop-holds c =
-    let s = c .before .before .before .before .before .before in
-    enough-begin (s .args .period) _ (s .args .t) (s .args .from) (s .args .to) (s .pre .5) (s .pre .7) _ (s .pre .6) (omega (arith, fine s)) (c .smaller .ensures ∙ ap (min (s .args .to)) (c .before .larger .ensures))
+    let s = c .before .before .before .before in
+    bracket-start _ (s .args .from) (s .args .to) (s .pre .5) (s .pre .6)
 
 sub-middle : tie.Need-sub-middle Inv-loop μ-loop
 sub-middle c = omega arith
@@ -106,7 +84,7 @@ add-middle c = omega arith
 
 reach-at-requires : tie.Need-reach-at-requires Inv-loop μ-loop
 reach-at-requires c κs =
-    let s = c .before .before .before .before .before .before .before .before in
+    let s = c .before .before .before .before .before .before in
     let k = c .before .loop .inv in
     omega (arith, fine s, k .some, k .from, k .top)
 
@@ -115,7 +93,7 @@ loop-less c = omega arith
 
 loop-again : tie.Need-loop-again Inv-loop μ-loop
 loop-again c =
-    let s = c .before .before .before .before .before .before .before .before .before .before in
+    let s = c .before .before .before .before .before .before .before .before in
     let at = c .before .before .before .loop in
     enough-down (s .args .period) _ (s .args .t) (s .args .from) (s .args .to) (s .pre .5) (s .pre .7) (at .least) (at .most) (at .inv) _ _ (omega arith) (omega arith) (c .before .reach-at .ensures) (c .if3 .taken)
 
@@ -127,15 +105,15 @@ loop-less-2 c = omega arith
 
 loop-again-2 : tie.Need-loop-again-2 Inv-loop μ-loop
 loop-again-2 c =
-    let s = c .before .before .before .before .before .before .before .before .before .before in
+    let s = c .before .before .before .before .before .before .before .before in
     let at = c .before .before .before .loop in
     enough-up (s .args .period) _ (s .args .t) (s .args .from) (s .args .to) (s .pre .5) (s .pre .7) (at .least) (at .most) (at .inv) _ _ (omega arith) (omega arith) (c .before .reach-at .ensures) (c .if3 .left)
 
 returns-3 : tie.Need-returns-3 Inv-loop μ-loop
 returns-3 c =
-    let s = c .before .before .before .before .before .before .before .before in
+    let s = c .before .before .before .before .before .before in
     let at = c .before .loop in
-    subst (λ (x : ℕ). EnoughIs (s .args .period) x (s .args .t) (s .args .from) (s .args .to) (at .most)) (is (c .before .before .before .before .before))
+    subst (λ (x : ℕ). EnoughIs (s .args .period) x (s .args .t) (s .args .from) (s .args .to) (at .most)) (is (c .before .before .before))
     (enough-end (s .args .period) _ (s .args .t) (s .args .from) (s .args .to) (s .pre .5) (s .pre .7) (at .least) (at .most) (at .inv) (c .loop-test .left))
 
 pub enough-at-spec : {M : Type 1} → statement M
@@ -152,10 +130,6 @@ enough-at-spec =
     demand-from-requires
     add-need
     returns-2
-    mul-share
-    div-share
-    larger-requires
-    smaller-requires
     loop-holds
     sub-middle
     add-middle
