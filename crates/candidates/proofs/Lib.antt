@@ -12,5 +12,7 @@ pub mod Pairs
 pub mod Budgets
 pub mod Starts
 pub mod Lowest
+pub mod Permits
 pub mod Turn
 pub mod Searching
+pub mod AnyPair

@@ -41,7 +41,7 @@ module _ (p : Part) (fine : FinePart p) (c : Columns) (are : ColumnsAre p c) (ta
   abbrev blocking : ℕ → ℕ
   blocking k = blockingBy table ceilings (p .locks) k
 
-  task-is : (k : ℕ) → k < p .count → getD (tasksOf p) k blankTask ≡ withLocks (p .locks) (getD (p .tasks) k blankTask)
+  pub task-is : (k : ℕ) → k < p .count → getD (tasksOf p) k blankTask ≡ withLocks (p .locks) (getD (p .tasks) k blankTask)
   task-is k h = let e = sym (drop-cons (tasksOf p) k blankTask (omega (arith, tasks-length p fine))) ∙ tasks-at p fine k h in cc e
 
   -- by its columns a task passes as it does in the part

@@ -4,11 +4,10 @@
 -- Assumes nothing.
 use Prim.Native.Nat.{ℕ, _+_, _-_, _≤_, _<_}
 use native.Mathlib.Omega.{arith}
-use mathlib.Core.Path.{_≡_, refl, sym, ap, _∙_, subst}
-use mathlib.Core.Bool.{Bool, true, false}
+use mathlib.Core.Path.{_≡_, sym, ap, _∙_, subst}
+use mathlib.Core.Bool.{true, false}
 use mathlib.Core.List.{List, [], _∷_}
 use lib.ListN.{length, getD, set, replicate, length-set, length-append, length-replicate}
-use Rattle.least.specs.Lists.{isEmpty}
 use Rattle.refusal.specs.Limits.{numberLimit}
 use Rattle.demand.specs.Demand.{costLimit}
 use Rattle.task_set.specs.declared.Part.{Part}
@@ -21,16 +20,13 @@ use Rattle.task_set.specs.ByLock.{LocksAre, LongestBelow, blockingBy}
 use Rattle.task_set.proofs.ByColumn.{columns-fine}
 use Rattle.task_set.proofs.ByLock.{lowest-most, longest-most, deadline-most}
 use Rattle.task_set.proofs.BlockingAt.{blocking-small}
-use Rattle.candidates.specs.declared.Pair.{Pair}
 use Rattle.candidates.specs.declared.Raised.{Raised}
 use Rattle.candidates.specs.declared.Budgeted.{Budgeted}
 use Rattle.candidates.specs.Candidates.{pair, keptList, keptAnswer, keptOf}
-use Rattle.candidates.specs.Statement.{Candidate}
-use Rattle.candidates.specs.Code.{ceilingAt, FineLocks, RaisedIs, budgetStep, BudgetIs, hasPair, pairsOf, sumAt, LighterIs}
-use Rattle.candidates.proofs.Candidates.{kept-empty}
+use Rattle.candidates.specs.Code.{ceilingAt, FineLocks, RaisedIs, budgetStep, BudgetIs, pairsOf, sumAt, LighterIs}
 use Rattle.candidates.proofs.Walk.{lighter, pushed, WalkedFrom, Walked, walk-zero}
 use Rattle.candidates.proofs.Pairs.{pairs-none, pairs-length, pairs-each, lighter-pairs, pairs-pushed}
-use Rattle.candidates.proofs.Turn.{SearchAt, search-start, walked-start, walked-few, candidate-small, raise-missed, raised-most, holding-most, budget-missed, budget-most, turn-candidate, turn-push, turn-next, search-next}
+use Rattle.candidates.proofs.Turn.{SearchAt, search-start, walked-start, walked-few, candidate-small, raise-missed, raised-most, holding-most, budget-missed, budget-most, turn-push, turn-next, search-next}
 
 pub record Prepared (p : Part) (c : Columns) (k : Locks) (table : List ℕ) : Type 0 where
   pub fine : FinePart p
@@ -86,40 +82,11 @@ module _ (p : Part) (c : Columns) (k : Locks) (table : List ℕ) (ready : Prepar
     complete : pairsOf budgets holdings count ≡ keptList (p .period) (tasksOf p) (p .locks) → keptAnswer (pairsOf budgets holdings count) ≡ keptOf (p .period) (tasksOf p) (p .locks)
     complete e = ap keptAnswer e
 
-    -- whether the kept list is empty
-    none-kept : count ≡ 0 → pairsOf budgets holdings count ≡ keptList (p .period) (tasksOf p) (p .locks) → hasPair (p .period) (tasksOf p) (p .locks) ≡ false
-    unfolding hasPair isEmpty
-    none-kept z e =
-        let empty : keptList (p .period) (tasksOf p) (p .locks) ≡ [] = sym e ∙ ap (pairsOf budgets holdings) z ∙ pairs-none budgets holdings in
-        rw empty refl
-
-    some-kept : {d : Pair} → Candidate (p .period) (tasksOf p) (p .locks) d → hasPair (p .period) (tasksOf p) (p .locks) ≡ true
-    unfolding hasPair isEmpty
-    some-kept {d} some = go (keptList (p .period) (tasksOf p) (p .locks)) refl
-      where
-        go : (cs : List Pair) → keptList (p .period) (tasksOf p) (p .locks) ≡ cs → hasPair (p .period) (tasksOf p) (p .locks) ≡ true
-        go [] e = absurd (kept-empty (p .period) (tasksOf p) (p .locks) .0 e d some)
-        go (c ∷ cs) e = rw e refl
-
     module _ (r : Raised) (is : RaisedIs (ceilingAt (timesOf (c .separations) (c .costs) (p .count)) (k .longest) (k .deadlines) ceilings times x) (p .locks) r) where
-      -- the first turn finds no pair just if there is none
-      pub first-raised : count ≡ 0 → r .found ≡ false → hasPair (p .period) (tasksOf p) (p .locks) ≡ false
-      first-raised z e =
-          none-kept z (raise-missed p (ready .fine) c (ready .columns) k (ready .locks) x ceilings times blocked budget (s .search) r is _ (s .walked) e)
-
       pub none-raised : r .found ≡ false → keptAnswer (pairsOf budgets holdings count) ≡ keptOf (p .period) (tasksOf p) (p .locks)
       none-raised e = complete (raise-missed p (ready .fine) c (ready .columns) k (ready .locks) x ceilings times blocked budget (s .search) r is _ (s .walked) e)
 
       module _ (yes : r .found ≡ true) (b : Budgeted) (has : BudgetIs (budgetStep (timesOf (c .separations) (c .costs) (p .count)) (c .costs) (c .deadlines) (p .period) (blockingBy table (r .ceilings) (p .locks)) blocked) (blockingBy table (r .ceilings) (p .locks)) (p .count) budget b) where
-        pub first-passes : count ≡ 0 → b .found ≡ hasPair (p .period) (tasksOf p) (p .locks)
-        first-passes z = go (b .found) refl
-          where
-            go : (f : Bool) → b .found ≡ f → b .found ≡ hasPair (p .period) (tasksOf p) (p .locks)
-            go false e =
-                e ∙ sym (none-kept z (budget-missed p (ready .fine) c (ready .columns) k (ready .locks) x ceilings times blocked budget (s .search) r is yes table (ready .below) b has _ (s .walked) e))
-            go true e =
-                e ∙ sym (some-kept (turn-candidate p (ready .fine) c (ready .columns) k (ready .locks) x ceilings times blocked budget (s .search) r is yes table (ready .below) b has e))
-
         pub none-passes : b .found ≡ false → keptAnswer (pairsOf budgets holdings count) ≡ keptOf (p .period) (tasksOf p) (p .locks)
         none-passes e = complete (budget-missed p (ready .fine) c (ready .columns) k (ready .locks) x ceilings times blocked budget (s .search) r is yes table (ready .below) b has _ (s .walked) e)
 

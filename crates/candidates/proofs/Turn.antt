@@ -32,7 +32,7 @@ use Rattle.budget.proofs.SettingsAgree.{passes-agree, leastBudget-agree}
 use Rattle.candidates.specs.declared.Pair.{Pair}
 use Rattle.candidates.specs.declared.Raised.{Raised}
 use Rattle.candidates.specs.declared.Budgeted.{Budgeted}
-use Rattle.candidates.specs.Candidates.{pair, keptList, shownCeiling}
+use Rattle.candidates.specs.Candidates.{keptList, shownCeiling}
 use Rattle.candidates.specs.Statement.{Permitted, Candidate}
 use Rattle.candidates.specs.Code.{ceilingAt, heldTime, RaisedIs, budgetStep, BudgetIs}
 use Rattle.candidates.proofs.Shown.{deadlines-holding, shown-budget}
@@ -143,9 +143,6 @@ module _ (p : Part) (fine : FinePart p) (c : Columns) (are : ColumnsAre p c) (k 
 
         pub budget-most : b .budget ≤ p .period
         budget-most = range .1
-
-        pub turn-candidate : Candidate (p .period) (tasksOf p) (p .locks) (pair (b .budget) (r .holding))
-        turn-candidate = record { setting = shownCeiling (tasksOf p) x; allowed = permitted-shown; holding = holding-is; budget = least }
 
         pub turn-push : (cs : List Pair) → Walked (p .period) (tasksOf p) (p .locks) x cs → WalkedFrom (p .period) (tasksOf p) (p .locks) (r .holding) (pushed (b .budget) (r .holding) cs)
         turn-push cs w = walk-push (p .period) (tasksOf p) (p .locks) x (b .budget) (r .holding) cs w permitted-shown holding-is holding-most least

@@ -336,7 +336,8 @@ pub fn kept_of(part: Part) -> Kept
     }
 }
 
-// Whether the part has a kept pair: whether the first turn of the search for its list finds one.
+// Whether the part has a kept pair: whether a budget passes at the lowest ceilings of its locks. They block least, and no holding time is needed: a setting under
+// which a budget passes is permitted.
 pub fn has_pair(part: Part) -> bool
     requires { ⌜ FinePart part × (1 ≤ part .period) × (part .period ≤ numberLimit) ⌝ }
     ensures { λ r. ⌜ r ≡ hasPair (part .period) (tasksOf part) (part .locks) ⌝ }
@@ -346,27 +347,9 @@ pub fn has_pair(part: Part) -> bool
     let costs = columns.costs;
     let deadlines = columns.deadlines;
     let locks = task_set::locks_of(part);
-    let longest = locks.longest;
-    let limits = locks.deadlines;
-    let below = task_set::longest_below(part);
     let lowest = locks.lowest;
-    let times = [UNKNOWN; 8];
+    let below = task_set::longest_below(part);
     let tested = [UNKNOWN; 16];
-    let raised = raise(
-        &separations,
-        &costs,
-        part.count,
-        &longest,
-        &limits,
-        part.locks,
-        lowest,
-        times,
-        NUMBER_LIMIT,
-    );
-    if !raised.found {
-        return false;
-    }
-    let ceilings = raised.ceilings;
     let passing = budget_under(
         &separations,
         &costs,
@@ -374,7 +357,7 @@ pub fn has_pair(part: Part) -> bool
         part.count,
         part.period,
         &below,
-        &ceilings,
+        &lowest,
         part.locks,
         tested,
         1,
