@@ -42,8 +42,7 @@ fn passing_time(
             t = next;
             continue;
         }
-        // A search that a few steps do not settle jumps at every other one, by a line above the supply.
-        left = 1;
+        // A search that a few steps do not settle jumps, by a line above the supply, and makes some more before it jumps again, as in `envelope::first_met`.
         let wait = q * (period - q);
         let line = LinearSupply {
             times: period,
@@ -51,6 +50,7 @@ fn passing_time(
             rate: q,
         };
         t = envelope::no_earlier(separations, costs, n, i + 1, own, line, t, next, deadline);
+        left = t / 16 % 8;
     }
     Least::Nothing
 }

@@ -22,7 +22,7 @@ pub fn demand_from(periods: &[u64; 16], costs: &[u64; 16], n: usize, s: usize, t
     ensures { λ x. ⌜ DemandIs (now (periods .entry)) (now (costs .entry)) n s t x ⌝ }
 {
     let mut sum: u64 = 0;
-    let mut k = s;
+    let mut k: usize = s;
     while k < n {
         sum += releases(t, periods[k]) * costs[k];
         k += 1;

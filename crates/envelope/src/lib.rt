@@ -1,5 +1,6 @@
 // Straight lines under a demand, and a search that jumps by them. From a time t on, a task that comes again asks for no less than its share of the time, and none
-// asks for less than it has asked for by t: the greatest of the sums of both kinds is the lower convex envelope of the demand. Where it is met, a search may go on.
+// asks for less than it has asked for by t: the greater of both is the lower convex envelope of what the task asks for. Where the sum of the envelopes is met, a
+// search may go on.
 use least::Least;
 ghost use mathlib.Core.Path.{_≡_};
 ghost use Prim.Native.Nat.{_+_, _-_, _*_, _/_, min, _≤_, _<_};
@@ -7,7 +8,7 @@ ghost use Rattle.refusal.specs.Limits.{numberLimit};
 ghost use Rattle.demand.specs.Demand.{demandFrom, costLimit, demandLimit, FineDemand};
 ghost use Rattle.envelope.specs.Envelope.{firstMet, FineSupply, slopeScale, LineIs, CrossingIs, NoEarlier};
 
-// A linear supply: a demand of x is met by the time v if times * x + wait <= rate * v.
+// A linear supply: a demand of x is met by the time v if times * x + wait <= rate * v. With a wait of 1 a ratio is to be smaller, with 0 no greater.
 pub struct LinearSupply {
     pub times: u64,
     pub wait: u64,
@@ -76,7 +77,7 @@ fn crossing(x: u64, slope: u64, by: LinearSupply) -> u64
 }
 
 // A time from `next` on that no time from t on by which the demand is met is before, if none is before `next`. Each turn takes the line that is highest at the
-// time to which the last one went; it ends where the envelope is met or the limit passed.
+// time to which the last one went; it ends where the sum of the envelopes is met or the limit passed.
 pub fn no_earlier(
     periods: &[u64; 16],
     costs: &[u64; 16],
@@ -133,9 +134,10 @@ pub fn first_met(
             t = next;
             continue;
         }
-        // A search that a few steps do not settle jumps at every other one.
-        left = 1;
+        // A search that a few steps do not settle jumps, and makes none to seven steps, by the time it is at, before it jumps again: jumps at equal distances
+        // could keep step with the demand.
         t = no_earlier(periods, costs, n, s, own, by, t, next, limit);
+        left = t / 16 % 8;
     }
     Least::Nothing
 }

@@ -38,14 +38,14 @@ pub fn hold(
                 w = next;
                 continue;
             }
-            // A search that a few steps do not settle jumps at every other one.
-            left = 1;
+            // A search that a few steps do not settle jumps, and makes some more before it jumps again, as in `envelope::first_met`.
             let whole = LinearSupply {
                 times: 1,
                 wait: 0,
                 rate: 1,
             };
             w = envelope::no_earlier(separations, costs, n, r, g, whole, w, next, limit);
+            left = w / 16 % 8;
         };
         break 'search Least::At(fixed);
     }

@@ -66,7 +66,8 @@ fn better(
     best
 }
 
-// A ratio to begin with: that of a likely time, the period or the last time up to it at which a row from the place s on comes again; 1 where none is smaller.
+// A ratio to begin with: that of a likely time, the period or the last time up to it at which a row from the place s on comes again (1 where it does not); 1
+// where none is smaller.
 fn likely(periods: &[u64; 16], sums: &[u64; 16], n: usize, s: usize, period: u64, own: u64) -> Frac
     requires { ⌜ FineDemand (now periods) (now sums) n × (1 ≤ period) × (period ≤ numberLimit) × (1 ≤ own) × (own ≤ ownLimit) ⌝ }
     ensures { λ r. ⌜ LowerIs (now (periods .entry)) (now (sums .entry)) n s period own (frac 1 1) r ⌝ }
