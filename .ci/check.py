@@ -8,6 +8,7 @@ import sys
 from pathlib import Path
 
 sys.dont_write_bytecode = True
+from interface import HEADER, RAW, check_constants, check_refusals
 from papers import check_notes, check_requests, check_trace, check_words
 from statements import check_quotes, check_statements, check_uses, source
 
@@ -259,8 +260,8 @@ def check_one_limit(top):
         found = [str(path.relative_to(top)) for path in places for _ in range(limits(source(path)))]
         if len(found) != 1 or not found[0].startswith('crates/refusal/'):
             yield f'the limit of numbers stands {len(found)} times in {what}, and must stand once, in refusal: ' + ', '.join(found)
-    if not re.search(r'^enum {.*\bPLANNER_MOST_NUMBER = 1000000\b', (top / 'include' / 'planner.h').read_text(), re.M):
-        yield 'include/planner.h: PLANNER_MOST_NUMBER is not the limit of numbers'
+    if not re.search(r'^enum {.*\bPLANNER_MOST_NUMBER = 1000000\b', source(top / HEADER), re.M):
+        yield f'{HEADER}: PLANNER_MOST_NUMBER is not the limit of numbers'
 
 
 # ---- theorems, examples, verdicts
@@ -319,19 +320,20 @@ def check_verdicts(top):
 
 
 def check_tests(top):
-    """Every exported operation is in the C header and in the library that the Rust tests call; no file of tests is empty, and no test is left out."""
-    for place in ('include/planner.h', 'tests/src/library.rs'):
+    """Every exported operation is in the C header, in the Rust package and in what the Rust tests call; no file of tests is empty, and no test is left out."""
+    for place in (HEADER, RAW, 'tests/src/library.rs'):
         for fn in sorted(name.split('::')[1] for name in OPERATIONS if name.startswith('planner_c::')):
             if not re.search(rf'\b{fn}\(', source(top / place)):
                 yield f'{place}: {fn} is not declared'
-    for path in sorted((top / 'tests' / 'tests').glob('*.rs')):
+    for path in [*sorted(top.glob('tests/tests/*.rs')), *sorted(top.glob('rust/planner/tests/*.rs'))]:
         if '#[test]' not in source(path) or '#[ignore' in source(path):
-            yield f'tests/tests/{path.name}: no test, or one that is ignored'
+            yield f'{path.relative_to(top)}: no test, or one that is ignored'
 
 
 CHECKS = [
     check_contracts, check_names, check_words, check_trace, check_requests, check_notes, check_statements, check_uses, check_quotes,
     check_edits, check_shut_outs, check_one_pass, check_one_limit, check_theorems, check_table, check_example_a, check_poster, check_verdicts, check_tests,
+    check_refusals, check_constants,
 ]
 
 if __name__ == '__main__':

@@ -11,6 +11,7 @@ from pathlib import Path
 
 sys.dont_write_bytecode = True
 import check
+import interface
 import papers
 import statements
 
@@ -114,6 +115,25 @@ LIMIT, LIMIT_CODE = 'crates/refusal/specs/Limits.antt', 'crates/refusal/src/lib.
 SCANNED = """abbrev pub EveryLineScanned : Type 0
 EveryLineScanned = (s : List ℕ) → ScanIs s
 """
+HEADER = """/* "no 15", PLANNER_MOST = 7 */
+#define PLANNER_VERSION_MAJOR 1
+#define PLANNER_VERSION_MINOR 2
+#define PLANNER_VERSION_PATCH 3
+#define PLANNER_VERSION "1.2.3"
+enum { PLANNER_MOST_NUMBER = 1000000, PLANNER_ROOM = 8192 };
+enum {
+    PLANNER_STACK_PLAN = 184 * 1024
+};
+static const char *const texts[] = {
+    """
+RUST = """/// The greatest number.
+pub const MOST_NUMBER: u64 = 1_000_000;
+
+/// Bytes.
+pub const ROOM: usize = 8192;
+pub const STACK_PLAN: usize = 184 * 1024;
+const TEXTS: [&str; 15] = [
+    """
 VERDICT = 'logic=proved functions=2 sum=0 native=nat,char,string logic-built=trusted libraries-built=trusted\n'
 
 
@@ -146,7 +166,7 @@ def right_tree():
         'crates/examples/specs/Files.antt': 'fileA = bytes "part\\tcard\\t20\\nend\\n"\nlistingA = bytes "load\\tcard\\n"\n',
         'crates/examples/specs/Table.antt': 'abbrev pub table : List Example\ntable =\n    ' + '    ∷ '.join(rows) + '    ∷ []\n\ninfixr 60 _and_\n',
         'crates/plan/src/main.rt': 'fn main() {\n}\n',
-        'README.md': 'A file:\n\npart\tcard\t20\nend\n\nits plan:\n\nload\tcard\n',
+        'README.md': 'A file:\n\npart\tcard\t20\nend\n\nits plan:\n\nload\tcard\n\n' + ''.join(f'| {number} | 0 | no {number} | write it |\n' for number in range(1, 15)),
         DEMAND_1: DEMAND,
         SCAN: SCANNED,
         SCAN_CODE: 'let mut i = at;\nwhile i < s.len() {\n    let b = s[i];\n    if b == 10 {\n        return Scanned { good: true, end: i };\n    }\n    i += 1;\n}\n',
@@ -164,10 +184,14 @@ def right_tree():
         'crates/cases/data/m103-poster': 'part\tp\t9\nend\n',
         'crates/cases/stdout': '== m103-poster\nload\tp\n== more\nend\n',
         M_102: NOTE,
-        'docs/CHANGELOG.md': '# Changes\n\n## M-102 A title\n\nNo answer changes.\n',
-        'include/planner.h': 'enum { PLANNER_MOST_NUMBER = 1000000 };\n',
+        'CHANGELOG.md': '# Changes\n\n## M-102 A title\n\nNo answer changes.\n',
+        interface.HEADER: HEADER + ' '.join(f'"no {number}",' for number in range(15)) + '};\n',
+        interface.RUST: RUST + ' '.join(f'"no {number}",' for number in range(15)) + '];\n',
+        interface.RAW: '',
+        interface.PACKAGE: '[package]\nversion = "1.2.3"\n',
         'tests/src/library.rs': '',
         'tests/tests/library.rs': '#[test]\nfn plans() {}\n',
+        'rust/planner/tests/operations.rs': '#[test]\nfn plans() {}\n',
     }
     files['docs/DEMANDS.md'] = '> Whoever asks gets an answer.\n\n> A refusal writes nothing.\n'
     files['docs/REQUESTS.md'] = '> A sentence.\n'
@@ -188,8 +212,9 @@ def right_tree():
             files[f'crates/{crate}/must-fail/{label}.edit'] = edit(f'`{fn}`')
             files[f'target/must-fail/{crate}/{label}/.log'] = log(f'{crate}/{label}', f'@proofs/{fn}/Proof.antt:1:2: error: `returns`: the two types differ\n')
         if crate == 'planner_c':
-            files['include/planner.h'] += f'answer {fn}(const uint8_t *file);\n'
-            files['tests/src/library.rs'] += f'    fn {fn}(file: *const u8);\n'
+            files[interface.HEADER] += f'answer {fn}(const uint8_t *file);\n'
+            files[interface.RAW] += f'    pub fn {fn}(file: *const u8);\n'
+            files['tests/src/library.rs'] += f'    raw::{fn}(file);\n'
         elif crate != 'console':
             files['crates/planner/src/lib.rt'] += f'pub use {name};\n'
     names = sorted({path.split('/')[1] for path in files if path.startswith('crates/')})
@@ -254,9 +279,9 @@ SLIPS = [
     (check.check_words, 'the words of a section are others: no line `', PAPER_2, '## M-104 A title', '## M-104 Another'),
     (check.check_words, 'the words of a section are others: no line `', 'docs/PAPER-01.md', 'whole ticks', 'ticks'),
     (check.check_words, 'the words of a section are others: no line `', papers.WORDS, None, None),
-    (check.check_requests, 'docs/CHANGELOG.md: nothing on M-102', 'docs/CHANGELOG.md', '## M-102', '## M-103'),
-    (check.check_requests, 'docs/CHANGELOG.md: nothing on M-102', 'docs/CHANGELOG.md', 'No answer changes.', ''),
-    (check.check_requests, 'docs/CHANGELOG.md: nothing on M-102', 'docs/CHANGELOG.md', None, None),
+    (check.check_requests, 'CHANGELOG.md: nothing on M-102', 'CHANGELOG.md', '## M-102', '## M-103'),
+    (check.check_requests, 'CHANGELOG.md: nothing on M-102', 'CHANGELOG.md', 'No answer changes.', ''),
+    (check.check_requests, 'CHANGELOG.md: nothing on M-102', 'CHANGELOG.md', None, None),
     (check.check_requests, 'the sentences of M-113 are M113a M113b M113c M113d M113e, and must be', PAPER_2, '- M113f. A sentence.\n', ''),
     (check.check_requests, 'the sentences of M-103 are M103a M103b M103d M103e, and must be', PAPER_2, '- M103c. A sentence.\n', ''),
     (check.check_requests, 'the sentences of M-103 are M103a M103b M103c M103d M103f, and must be', PAPER_2, '- M103e.', '- M103f.'),
@@ -373,16 +398,36 @@ SLIPS = [
     *((check.check_one_limit, 'the limit of numbers stands 2 times in the code', 'crates/least/src/lib.rt', '', f'    if {most} < t {{\n') for most in ['1000000u64', '1_000_000_u64', '0xF4240', '1000 * 1000']),
     (check.check_one_limit, 'the limit of numbers stands 2 times in the definitions', 'crates/least/specs/Round.antt', '', 'most = 10 ^ 6\n'),
     (check.check_one_limit, 'the limit of numbers stands 0 times in the code', 'crates.txt', 'refusal: least\n', ''),
-    (check.check_one_limit, 'PLANNER_MOST_NUMBER is not the limit', 'include/planner.h', '1000000', '65535'),
-    (check.check_one_limit, 'PLANNER_MOST_NUMBER is not the limit', 'include/planner.h', 'enum {', '// enum {'),
+    (check.check_one_limit, 'PLANNER_MOST_NUMBER is not the limit', interface.HEADER, '1000000', '65535'),
+    (check.check_one_limit, 'PLANNER_MOST_NUMBER is not the limit', interface.HEADER, 'enum { P', '// enum { P'),
     (check.check_verdicts, 'planning: no verdict', 'target/log/planning.out', None, None),
     (check.check_verdicts, 'planning: no verdict', 'target/log/planning.out', 'logic=proved', 'logic=not-proved'),
     (check.check_verdicts, 'planning: the verdict names an assumption, axioms', 'target/log/planning.out', 'sum=0', 'axioms=1 sum=0'),
     (check.check_verdicts, 'planning: the verdict names an assumption, cache', 'target/log/planning.out', 'sum=0', 'sum=0 cache=trusted'),
-    (check.check_tests, 'include/planner.h: planner_weigh is not declared', 'include/planner.h', 'planner_weigh(', 'planner_weight('),
-    (check.check_tests, 'tests/src/library.rs: planner_name is not declared', 'tests/src/library.rs', '    fn planner_name(', '    // fn planner_name('),
+    (check.check_tests, 'include/planner.h: planner_weigh is not declared', interface.HEADER, 'planner_weigh(', 'planner_weight('),
+    (check.check_tests, 'rust/planner/src/raw.rs: planner_weigh is not declared', interface.RAW, 'planner_weigh(', 'planner_weight('),
+    (check.check_tests, 'tests/src/library.rs: planner_name is not declared', 'tests/src/library.rs', '    raw::planner_name(', '    // raw::planner_name('),
     (check.check_tests, 'tests/tests/library.rs: no test', 'tests/tests/library.rs', '#[test]', '// #[test]'),
     (check.check_tests, 'tests/tests/library.rs: no test', 'tests/tests/library.rs', '#[test]', '#[test]\n#[ignore]'),
+    (check.check_tests, 'rust/planner/tests/operations.rs: no test', 'rust/planner/tests/operations.rs', '#[test]', '// #[test]'),
+    (check.check_refusals, 'README.md: refusal 5 is `never`, and in include/planner.h `no 5`', 'README.md', '| no 5 |', '| never |'),
+    (check.check_refusals, 'README.md: refusal 5 is `no 5`, and in include/planner.h `never`', interface.HEADER, '"no 5"', '"never"'),
+    (check.check_refusals, 'rust/planner/src/lib.rs: refusal 5 is `never`, and in include/planner.h `no 5`', interface.RUST, '"no 5"', '"never"'),
+    (check.check_refusals, 'rust/planner/src/lib.rs: refusal 0 is `never`', interface.RUST, '"no 0"', '"never"'),
+    (check.check_refusals, 'rust/planner/src/lib.rs: refusal 14 is `None`', interface.RUST, '"no 5"', '/* "no 5" */'),
+    (check.check_refusals, 'rust/planner/src/lib.rs: refusal 5 is `no 6`', interface.RUST, '"no 5", "no 6",', '"no 6", "no 5",'),
+    (check.check_refusals, 'in include/planner.h `None`', interface.HEADER, 'texts[]', 'words[]'),
+    (check.check_refusals, 'in include/planner.h `no 15`', interface.HEADER, '"no 14",', '"no 14", "no 15",'),
+    (check.check_refusals, 'README.md: the refusals are 1 2 3 4 6', 'README.md', '| 5 | 0 | no 5 | write it |\n', ''),
+    (check.check_refusals, 'README.md: the refusals are 1 2 3 4 6', 'README.md', '| no 5 | write it |', '| no 5 |  |'),
+    (check.check_constants, 'ROOM is 8192, and in include/planner.h 4096', interface.HEADER, '8192', '4096'),
+    (check.check_constants, 'ROOM is None, and in include/planner.h 8192', interface.RUST, 'pub const ROOM', '// pub const ROOM'),
+    (check.check_constants, 'STACK_PLAN is 188416, and in include/planner.h 189440', interface.HEADER, '184 * 1024', '185 * 1024'),
+    (check.check_constants, 'STACK_PLAN is 188416, and in include/planner.h None', interface.HEADER, 'PLANNER_STACK_PLAN', 'PLANNER_STACK'),
+    *((check.check_constants, 'include/planner.h: the version is', path, old, new) for path, old, new in [
+        (interface.PACKAGE, '1.2.3', '1.2.4'), (interface.HEADER, '"1.2.3"', '"1.2.4"'), (interface.HEADER, 'PATCH 3', 'PATCH 4'), (interface.HEADER, '#define PLANNER_VERSION_MINOR 2\n', ''),
+        (interface.HEADER, '#define PLANNER_VERSION "1.2.3"\n', ''), (interface.PACKAGE, 'version', 'edition'),
+    ]),
 ]
 
 
@@ -392,7 +437,7 @@ class Checks(unittest.TestCase):
         folder = tempfile.TemporaryDirectory()
         cls.addClassCleanup(folder.cleanup)
         cls.top = Path(folder.name)
-        scripts = {f'.ci/{name}': (HERE / name).read_text() for name in ('check.py', 'papers.py', 'statements.py')}
+        scripts = {f'.ci/{name}': (HERE / name).read_text() for name in ('check.py', 'interface.py', 'papers.py', 'statements.py')}
         for path, text in {**right_tree(), **scripts}.items():
             (cls.top / path).parent.mkdir(parents=True, exist_ok=True)
             (cls.top / path).write_text(text)
@@ -449,9 +494,12 @@ echo "$asked" >>"$ASKED"
 [ "$asked" != "$FAILING" ]
 '''
 COMMANDS = [
-    'rt ci', 'rt fmt --check', 'python3 .ci/check_test.py', 'python3 .ci/check.py', 'rt staticlib planner_c',
-    'cargo test --offline --quiet --features library --manifest-path tests/Cargo.toml', 'run ', 'program ',
+    'rt ci', 'rt fmt --check', 'python3 .ci/check_test.py', 'python3 .ci/check.py', 'build library',
+    'cargo test --offline --quiet --features library --manifest-path tests/Cargo.toml', 'cargo test --offline --quiet --manifest-path rust/planner/Cargo.toml --target-dir target/rust',
+    'integrators ', 'stack ', 'program ', 'wrapper ', 'install ', 'example_plans ',
 ]
+# What is counted if all pass: three of `rt ci`, and every other command.
+ALL = 3 + len(COMMANDS[1:])
 
 
 class Gate(unittest.TestCase):
@@ -459,7 +507,7 @@ class Gate(unittest.TestCase):
         """.ci/run where `rt ci` does as told, one command fails, one is not there, and tee is another: status, last line, commands."""
         with tempfile.TemporaryDirectory() as folder:
             top = Path(folder)
-            for path in ('.ci/run', 'bin/rt', 'bin/python3', 'bin/cargo', 'tests/examples/run', 'tests/program'):
+            for path in ('.ci/run', 'bin/rt', 'bin/python3', 'bin/cargo', 'scripts/build', 'tests/integrators', 'tests/stack', 'tests/program', 'tests/wrapper', 'tests/install', 'tests/example_plans'):
                 (top / path).parent.mkdir(parents=True, exist_ok=True)
                 (top / path).write_text((HERE / 'run').read_text() if path == '.ci/run' else FAKE)
                 (top / path).chmod(0o755)
@@ -474,7 +522,7 @@ class Gate(unittest.TestCase):
             return run.returncode, run.stdout.splitlines()[-1], asked
 
     def test_all_passes(self):
-        self.assertEqual(self.gate('echo 3 passed, 0 failed'), (0, '10 passed, 0 failed', COMMANDS))
+        self.assertEqual(self.gate('echo 3 passed, 0 failed'), (0, f'{ALL} passed, 0 failed', COMMANDS))
 
     def test_rt_ci_fails(self):
         for ci, last in [
@@ -499,7 +547,7 @@ class Gate(unittest.TestCase):
     def test_another_command_fails(self):
         for command in COMMANDS[1:]:
             with self.subTest(command=command):
-                self.assertEqual(self.gate('echo 3 passed, 0 failed', failing=command), (1, '9 passed, 1 failed', COMMANDS))
+                self.assertEqual(self.gate('echo 3 passed, 0 failed', failing=command), (1, f'{ALL - 1} passed, 1 failed', COMMANDS))
 
 
 class Program(unittest.TestCase):
@@ -527,6 +575,36 @@ class Program(unittest.TestCase):
         for names, printed in [('', ''), ('short\n', ''), ('', '== short\nend\n'), ('short\nlong\n', '== short\nend\n'), ('short\n', '== short\nend \n')]:
             with self.subTest(names=names, printed=printed):
                 self.assertEqual(self.program('cat', names, printed), 1)
+
+
+class Stack(unittest.TestCase):
+    """tests/stack with a stand-in for gcc, which leaves a program that prints what is told."""
+    def stack(self, stated, printed='PLAN 20000\nSUPPLY 72\n', status=0):
+        with tempfile.TemporaryDirectory() as folder:
+            top = Path(folder)
+            gcc = f"#!/bin/sh\nfor last; do :; done\nprintf '#!/bin/sh\\necho \"{printed}\"\\n' >$last\nchmod +x $last\nexit {status}\n"
+            for path, text in {'include/planner.h': stated, 'tests/stack': (HERE.parent / 'tests' / 'stack').read_text(), 'bin/gcc': gcc}.items():
+                (top / path).parent.mkdir(parents=True, exist_ok=True)
+                (top / path).write_text(text)
+                (top / path).chmod(0o755)
+            told = {**os.environ, 'PATH': f'{top}/bin:{os.environ["PATH"]}'}
+            return subprocess.run([sys.executable, top / 'tests' / 'stack'], env=told, capture_output=True).returncode
+
+    def stated(self, plan, supply):
+        return f'enum {{\n    PLANNER_STACK_PLAN = {plan} * 1024,\n    PLANNER_STACK_SUPPLY = {supply} * 1024\n}};\n'
+
+    def test_numbers_that_fit_pass(self):
+        for plan in (20, 21):
+            self.assertEqual(self.stack(self.stated(plan, 1)), 0)
+
+    def test_numbers_that_do_not_fit_fail(self):
+        for stated in (self.stated(19, 1), self.stated(22, 1), self.stated(20, 0), self.stated(20, 2), self.stated(20, 1).replace('SUPPLY', 'WEIGH'), ''):
+            with self.subTest(stated=stated):
+                self.assertEqual(self.stack(stated), 1)
+
+    def test_nothing_measured_fails(self):
+        self.assertEqual(self.stack('', ''), 1)
+        self.assertEqual(self.stack(self.stated(20, 1), status=1), 1)
 
 
 if __name__ == '__main__':

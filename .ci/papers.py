@@ -3,7 +3,7 @@ import re
 from hashlib import sha256
 from string import ascii_lowercase
 
-PAPER_1, PAPER_2, TRACE, LANDINGS, CHANGES, WORDS = 'docs/PAPER-01.md', 'docs/PAPER-02.md', 'docs/TRACE.md', 'docs/landings', 'docs/CHANGELOG.md', '.ci/words.txt'
+PAPER_1, PAPER_2, TRACE, LANDINGS, CHANGES, WORDS = 'docs/PAPER-01.md', 'docs/PAPER-02.md', 'docs/TRACE.md', 'docs/landings', 'CHANGELOG.md', '.ci/words.txt'
 # The sections of paper 02, in order, and how many sentences each has.
 ALL = 'All requests'
 SENTENCES = {
@@ -99,7 +99,7 @@ def wanted_marks(request):
 
 
 def check_requests(top):
-    """docs/PAPER-02.md has its requests in order, each with all of its sentences, and says that those have landed whose note is there, and no others; docs/CHANGELOG.md has a section on each of
+    """docs/PAPER-02.md has its requests in order, each with all of its sentences, and says that those have landed whose note is there, and no others; CHANGELOG.md has a section on each of
     these."""
     found = requests(top)
     names = [name for name, _ in found]

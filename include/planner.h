@@ -1,9 +1,14 @@
-/* The planner's five operations, for C: link target/staticlib/libplanner_c.a, which `rt staticlib planner_c` writes.
+/* The planner's five operations, for C and C++ on x86-64 Linux: link
+ * target/staticlib/libplanner_c.a, which `rt staticlib planner_c` writes.
  *
- * Every operation takes any bytes and any numbers. Its answer has number and place 0, or the number and the place of the first question that has
- * the answer no (README.md, "Refusals"); then every other number of the answer is 0, and no lent byte is written.
- * Pointers are not null, even where the length is 0, and `file` and `out` do not overlap.
- * Nothing is kept between calls, and nothing is allocated; a call needs about 200 KB of stack.
+ * Any bytes, any numbers: an answer has number and place 0, or those of a refusal (README.md,
+ * "Refusals"). With a refusal every other number is 0, and no byte of `out` is written.
+ *
+ * Pointers: never null, even where the length is 0; `file` and `out` do not overlap.
+ * Threads: nothing is kept between calls. Calls may run at the same time in any threads, as long as
+ * nobody writes to the bytes that a call reads, and nobody uses those that it writes.
+ * Memory: the archive needs memcpy and memset of the C library and nothing else, so a call
+ * allocates nothing, reads and writes no file, and waits for nothing. It needs stack: below.
  */
 #ifndef PLANNER_H
 #define PLANNER_H
@@ -11,10 +16,35 @@
 #include <stddef.h>
 #include <stdint.h>
 
-/* PLANNER_MOST_NUMBER is the greatest number of a file, and the greatest period, budget, holding time and time set by hand. */
-enum { PLANNER_MOST_NUMBER = 1000000, PLANNER_MOST_PAIRS = 121, PLANNER_MOST_ROWS = 16, PLANNER_ROOM = 8192 };
+/* MAJOR moves when a caller must change something, MINOR when something is new, PATCH when neither
+ * is so. */
+#define PLANNER_VERSION_MAJOR 1
+#define PLANNER_VERSION_MINOR 0
+#define PLANNER_VERSION_PATCH 0
+#define PLANNER_VERSION "1.0.0"
 
-/* The plan of a file: its listing stands in the first `written` bytes of `out`, the others stay as they were. PLANNER_ROOM bytes are enough. */
+/* The greatest number of a file, and the greatest period, budget, holding time and time set by hand;
+ * the most bytes of a file, pairs of a kept list and rows of a weighing; bytes enough for any
+ * listing. */
+enum { PLANNER_MOST_NUMBER = 1000000, PLANNER_MOST_BYTES = 32768, PLANNER_MOST_PAIRS = 121 };
+enum { PLANNER_MOST_ROWS = 16, PLANNER_ROOM = 8192 };
+
+/* Bytes of stack that a call needs, its answer included. A program that binds memcpy and memset only
+ * when they are first called (no -static, no -z now) needs some KB more in that call. */
+enum {
+    PLANNER_STACK_PLAN = 184 * 1024,
+    PLANNER_STACK_CANDIDATES = 66 * 1024,
+    PLANNER_STACK_NAME = 58 * 1024,
+    PLANNER_STACK_WEIGH = 4 * 1024,
+    PLANNER_STACK_SUPPLY = 1 * 1024
+};
+
+#ifdef __cplusplus
+extern "C" {
+#endif
+
+/* The plan of a file: its listing is in the first `written` bytes of `out`, the others stay as they
+ * were. PLANNER_ROOM bytes are enough. */
 typedef struct {
     uint64_t number, place;
     size_t written;
@@ -39,7 +69,8 @@ typedef struct {
 } planner_name_answer;
 planner_name_answer planner_name(const uint8_t *file, size_t length, size_t part);
 
-/* The bounds L/t of rows set by hand, lowest priority first, the load, and the first row that reaches it, counted from 1. */
+/* The bounds L/t of rows set by hand, lowest priority first, the load, and the first row that
+ * reaches it, counted from 1. */
 typedef struct {
     uint64_t period, budget, holding;
 } planner_row;
@@ -65,5 +96,31 @@ typedef struct {
     uint64_t number, place, ticks;
 } planner_supply_answer;
 planner_supply_answer planner_supply(uint64_t period, uint64_t budget, uint64_t time);
+
+/* What is wrong, by the number of a refusal; 0 is none. README.md says how to mend it. */
+static inline const char *planner_refusal_text(uint64_t number) {
+    static const char *const texts[] = {
+        "no refusal",
+        "the file is longer than 32,768 bytes",
+        "the line does not end with byte 10, or has a byte that is neither a tab nor 33 to 126",
+        "the line is not a part, task, lock or end with 3, 5, 3 or 1 fields",
+        "the record is not allowed here, or the file ends without an end line",
+        "the name is not 1 to 8 characters from a-z and 0-9",
+        "the name is not new among the parts of the file, tasks of the part or locks of the task",
+        "a number is not 1 to 1,000,000 in digits without a leading zero",
+        "C <= D <= T does not hold, or the lock is held for longer than its task's C",
+        "there are more than 16 parts, 16 tasks in the part or 8 different lock names in the part",
+        "the part has no permitted setting of ceilings with a budget",
+        "no choice for all parts passes the system test",
+        "a part number, a count of rows or a number set by hand is out of range",
+        "the row has no time t within its period with L(t) <= t",
+        "the listing does not fit the lent bytes",
+    };
+    return number < sizeof texts / sizeof *texts ? texts[number] : "unknown refusal";
+}
+
+#ifdef __cplusplus
+}
+#endif
 
 #endif

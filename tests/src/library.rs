@@ -1,188 +1,121 @@
-//! The planner's own library, called through its C interface (crates/planner_c).
+//! The planner's own library, as rust/planner gives it. Each operation is asked twice, through the
+//! safe interface and through the raw one: the raw answer must say the same, and have zeros wherever
+//! there is nothing to say. Anything else is a fault of the library.
 
+use std::array;
 use std::ops::Range;
+
+use planner::{raw, MOST_ROWS};
 
 use crate::local::Pair;
 use crate::system::{Bound, Row, Weighing};
-use crate::Refusal;
+use crate::{number_and_place, Refusal};
 
-#[repr(C)]
-struct PlanAnswer {
-    number: u64,
-    place: u64,
-    written: usize,
+/// An answer with its refusal as the reference has it, and the number and the place that the raw
+/// answer must have.
+fn settled<T>(answer: Result<T, planner::Refusal>) -> (Result<T, Refusal>, u64, u64) {
+    let answer = answer.map_err(|refusal| Refusal {
+        number: refusal.number as u32,
+        place: refusal.place as usize,
+    });
+    let (number, place) = number_and_place(&answer);
+    (answer, number.into(), place as u64)
 }
 
-#[repr(C)]
-#[derive(Clone, Copy)]
-struct CPair {
-    budget: u64,
-    holding: u64,
-}
-
-#[repr(C)]
-struct CandidatesAnswer {
-    number: u64,
-    place: u64,
-    pairs: [CPair; 121],
-    count: usize,
-}
-
-#[repr(C)]
-#[derive(Clone, Copy)]
-struct CRow {
-    period: u64,
-    budget: u64,
-    holding: u64,
-}
-
-#[repr(C)]
-struct CRows {
-    rows: [CRow; 16],
-    count: usize,
-}
-
-#[repr(C)]
-#[derive(Clone, Copy)]
-struct CFrac {
-    num: u64,
-    den: u64,
-}
-
-#[repr(C)]
-struct WeighAnswer {
-    number: u64,
-    place: u64,
-    bounds: [CFrac; 16],
-    load: CFrac,
-    row: u64,
-}
-
-#[repr(C)]
-struct SupplyAnswer {
-    number: u64,
-    place: u64,
-    ticks: u64,
-}
-
-#[repr(C)]
-struct NameAnswer {
-    number: u64,
-    place: u64,
-    start: usize,
-    length: usize,
-}
-
-extern "C" {
-    fn planner_plan(file: *const u8, length: usize, out: *mut u8, room: usize) -> PlanAnswer;
-    fn planner_name(file: *const u8, length: usize, part: usize) -> NameAnswer;
-    fn planner_weigh(rows: CRows) -> WeighAnswer;
-    fn planner_weigh_slice(rows: *const CRow, count: usize) -> WeighAnswer;
-    fn planner_candidates(file: *const u8, length: usize, part: usize) -> CandidatesAnswer;
-    fn planner_supply(period: u64, budget: u64, time: u64) -> SupplyAnswer;
-}
-
-/// The refusal that an answer names, if it does.
-fn refusal(number: u64, place: u64) -> Option<Refusal> {
-    (number != 0).then_some(Refusal {
-        number: number as u32,
-        place: place as usize,
-    })
-}
-
-/// The plan of the file: its listing stands in the first bytes of `out`, as many as are counted.
+/// The plan of the file: its listing is in the first bytes of `out`, as many as are counted.
 pub fn plan(file: &[u8], out: &mut [u8]) -> Result<usize, Refusal> {
+    let written = planner::plan_into(file, out).map(|listing| listing.len());
+    let (answer, number, place) = settled(written);
+    let expected = raw::PlanAnswer {
+        number,
+        place,
+        written: answer.unwrap_or(0),
+    };
     // SAFETY: the pointers and the lengths are those of the slices; the call writes only to `out`.
-    let answer = unsafe { planner_plan(file.as_ptr(), file.len(), out.as_mut_ptr(), out.len()) };
-    if let Some(refusal) = refusal(answer.number, answer.place) {
-        assert_eq!(answer.written, 0);
-        return Err(refusal);
-    }
-    assert_eq!(answer.place, 0);
-    Ok(answer.written)
+    let raw = unsafe { raw::planner_plan(file.as_ptr(), file.len(), out.as_mut_ptr(), out.len()) };
+    assert_eq!(raw, expected);
+    answer
 }
 
 /// The stretch of the file that is the name of the part, parts counted from 1.
 pub fn name(file: &[u8], part: usize) -> Result<Range<usize>, Refusal> {
+    let stretch = planner::name(file, part).map(|name| {
+        let start = name.as_ptr() as usize - file.as_ptr() as usize;
+        start..start + name.len()
+    });
+    let (answer, number, place) = settled(stretch);
+    let stretch = answer.clone().unwrap_or(0..0);
+    let expected = raw::NameAnswer {
+        number,
+        place,
+        start: stretch.start,
+        length: stretch.len(),
+    };
     // SAFETY: the pointer and the length are those of the slice, which the call only reads.
-    let answer = unsafe { planner_name(file.as_ptr(), file.len(), part) };
-    if let Some(refusal) = refusal(answer.number, answer.place) {
-        assert_eq!((answer.start, answer.length), (0, 0));
-        return Err(refusal);
-    }
-    Ok(answer.start..answer.start + answer.length)
+    let raw = unsafe { raw::planner_name(file.as_ptr(), file.len(), part) };
+    assert_eq!(raw, expected);
+    answer
 }
 
-/// A row as the library takes it.
-fn row_for_c(row: &Row) -> CRow {
-    CRow {
+/// The first numbers of a list in an array, zeros after them.
+fn padded<T: Copy + Default, const N: usize>(list: &[T]) -> [T; N] {
+    array::from_fn(|place| list.get(place).copied().unwrap_or_default())
+}
+
+/// Weighs rows set by hand, lent and by value; after the sixteenth only their count is handed over
+/// by value.
+pub fn weigh(rows: &[Row]) -> Result<Weighing, Refusal> {
+    let as_lent = |row: &Row| planner::Row {
         period: row.period,
         budget: row.budget,
         holding: row.holding,
-    }
-}
-
-/// Weighs rows set by hand, handed over by value; behind the sixteenth only their count is.
-pub fn weigh_by_value(rows: &[Row]) -> Result<Weighing, Refusal> {
-    let none = Row {
-        period: 0,
-        budget: 0,
-        holding: 0,
     };
-    let by_value = CRows {
-        rows: std::array::from_fn(|place| row_for_c(rows.get(place).unwrap_or(&none))),
+    let rows: Vec<planner::Row> = rows.iter().map(as_lent).collect();
+    let (answer, number, place) = settled(planner::weigh(&rows));
+    let weighed = answer.as_ref().ok();
+    let expected = raw::WeighAnswer {
+        number,
+        place,
+        bounds: padded(weighed.map_or(&[], |weighed| &weighed.bounds)),
+        load: weighed.map(|weighed| weighed.load).unwrap_or_default(),
+        row: weighed.map_or(0, |weighed| weighed.row),
+    };
+    let by_value = raw::Rows {
+        rows: padded::<_, MOST_ROWS>(&rows),
         count: rows.len(),
     };
-    // SAFETY: numbers in, numbers out.
-    weighing(rows.len(), unsafe { planner_weigh(by_value) })
-}
-
-/// Weighs rows set by hand.
-pub fn weigh(rows: &[Row]) -> Result<Weighing, Refusal> {
-    let list: Vec<CRow> = rows.iter().map(row_for_c).collect();
     // SAFETY: the pointer and the count are those of the list, which the call only reads.
-    weighing(rows.len(), unsafe {
-        planner_weigh_slice(list.as_ptr(), list.len())
-    })
-}
-
-/// What an answer of weighing says of that many rows. A refusal has no bounds, and places behind
-/// the rows are zero: anything else is a fault of the library.
-fn weighing(count: usize, answer: WeighAnswer) -> Result<Weighing, Refusal> {
-    let bound = |of: &CFrac| Bound {
+    let lent = unsafe { raw::planner_weigh_slice(rows.as_ptr(), rows.len()) };
+    assert_eq!(lent, expected);
+    // SAFETY: numbers in, numbers out.
+    assert_eq!(unsafe { raw::planner_weigh(by_value) }, expected);
+    let weighed = answer?;
+    let bound = |of: &planner::Fraction| Bound {
         demand: of.num,
         time: of.den,
     };
-    let none = |of: &CFrac| of.num == 0 && of.den == 0;
-    if let Some(refusal) = refusal(answer.number, answer.place) {
-        assert!(answer.bounds.iter().all(none) && none(&answer.load) && answer.row == 0);
-        return Err(refusal);
-    }
-    let (bounds, rest) = answer.bounds.split_at(count);
-    assert!(rest.iter().all(none) && answer.place == 0);
     let weighing = Weighing {
-        bounds: bounds.iter().map(bound).collect(),
-        row: answer.row as usize - 1,
+        bounds: weighed.bounds.iter().map(bound).collect(),
+        row: weighed.row as usize - 1,
     };
-    assert_eq!(bound(&answer.load), weighing.load());
+    assert_eq!(bound(&weighed.load), weighing.load());
     Ok(weighing)
 }
 
-/// The kept list of one part of the file, parts counted from 1. A refusal has no pairs, and places
-/// behind the list are zero: anything else is a fault of the library.
+/// The kept list of one part of the file, parts counted from 1.
 pub fn candidates(file: &[u8], part: usize) -> Result<Vec<Pair>, Refusal> {
+    let (answer, number, place) = settled(planner::candidates(file, part));
+    let kept = answer.as_ref().map_or(&[][..], Vec::as_slice);
+    let expected = raw::CandidatesAnswer {
+        number,
+        place,
+        pairs: padded(kept),
+        count: kept.len(),
+    };
     // SAFETY: the pointer and the length are those of the slice, which the call only reads.
-    let answer = unsafe { planner_candidates(file.as_ptr(), file.len(), part) };
-    let (kept, rest) = answer.pairs.split_at(answer.count);
-    assert!(rest
-        .iter()
-        .all(|pair| pair.budget == 0 && pair.holding == 0));
-    if let Some(refusal) = refusal(answer.number, answer.place) {
-        assert_eq!(answer.count, 0);
-        return Err(refusal);
-    }
-    assert_eq!(answer.place, 0);
-    let pairs = kept.iter().map(|pair| Pair {
+    let raw = unsafe { raw::planner_candidates(file.as_ptr(), file.len(), part) };
+    assert_eq!(raw, expected);
+    let pairs = answer?.into_iter().map(|pair| Pair {
         budget: pair.budget,
         holding: pair.holding,
     });
@@ -191,13 +124,14 @@ pub fn candidates(file: &[u8], part: usize) -> Result<Vec<Pair>, Refusal> {
 
 /// The supply of a budget in a server period over `time` ticks.
 pub fn supply(period: u64, budget: u64, time: u64) -> Result<u64, Refusal> {
+    let (answer, number, place) = settled(planner::supply(period, budget, time));
+    let expected = raw::SupplyAnswer {
+        number,
+        place,
+        ticks: answer.unwrap_or(0),
+    };
     // SAFETY: numbers in, numbers out.
-    let answer = unsafe { planner_supply(period, budget, time) };
-    match refusal(answer.number, answer.place) {
-        Some(refusal) => {
-            assert_eq!(answer.ticks, 0);
-            Err(refusal)
-        }
-        None => Ok(answer.ticks),
-    }
+    let raw = unsafe { raw::planner_supply(period, budget, time) };
+    assert_eq!(raw, expected);
+    answer
 }

@@ -514,13 +514,32 @@ pub fn plan(file: &[u8], room: usize) -> Result<String, Refusal> {
         kept.push((part.period, keep(&candidates)));
     }
     let least = least_load(&all).ok_or((11, 0))?;
-    let rows = greatest_of_least_load(&kept).ok_or((11, 0))?;
-    let (bounds, first, load) = load(&rows).ok_or((11, 0))?;
+    let (listing, load) = of_kept(&parts, &kept)?;
     assert!(
         compare(load, least).is_eq(),
         "least load {least:?}, of kept pairs {load:?}"
     );
+    if listing.len() > room {
+        return Err((14, 0));
+    }
+    Ok(listing)
+}
 
+/// The listing of the plan, for files with too many choices: only those built from kept pairs are
+/// looked at.
+pub fn plan_of_kept(file: &[u8]) -> Result<String, Refusal> {
+    let parts = read(file)?;
+    let mut kept = Vec::new();
+    for number in 1..=parts.len() {
+        kept.push((parts[number - 1].period, candidates(file, number)?));
+    }
+    of_kept(&parts, &kept).map(|(listing, _)| listing)
+}
+
+/// The listing of the plan of parts with these kept lists, and its load.
+fn of_kept(parts: &[Part], kept: &[List]) -> Result<(String, Fraction), Refusal> {
+    let rows = greatest_of_least_load(kept).ok_or((11, 0))?;
+    let (bounds, first, load) = load(&rows).ok_or((11, 0))?;
     let mut listing = format!("load\t{}\t{}\t{}\n", parts[first - 1].name, load.0, load.1);
     for (part, (&(p, q, x), &(l, t))) in parts.iter().zip(rows.iter().zip(&bounds)) {
         listing += &format!("share\t{}\t{p}\t{q}\t{x}\t{l}\t{t}\n", part.name);
@@ -538,8 +557,5 @@ pub fn plan(file: &[u8], room: usize) -> Result<String, Refusal> {
             listing += &format!("ceiling\t{lock}\t{r}\n");
         }
     }
-    if listing.len() > room {
-        return Err((14, 0));
-    }
-    Ok(listing)
+    Ok((listing, load))
 }

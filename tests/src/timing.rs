@@ -5,7 +5,7 @@ use std::path::{Path, PathBuf};
 use std::time::{Duration, Instant};
 use std::{fs, io};
 
-/// A plan file of bench/, by its name without `.plan`.
+/// A plan file of a folder, by its name without `.plan`.
 pub struct BenchFile {
     pub name: String,
     pub path: PathBuf,
@@ -14,7 +14,17 @@ pub struct BenchFile {
 
 /// The plan files of bench/, in the order of their names.
 pub fn files() -> io::Result<Vec<BenchFile>> {
-    let folder = Path::new(env!("CARGO_MANIFEST_DIR")).join("bench");
+    plan_files("bench")
+}
+
+/// The example plan files, in the order of their names. They are not timed.
+pub fn examples() -> io::Result<Vec<BenchFile>> {
+    plan_files("../examples")
+}
+
+/// The plan files of a folder, seen from this package.
+fn plan_files(folder: &str) -> io::Result<Vec<BenchFile>> {
+    let folder = Path::new(env!("CARGO_MANIFEST_DIR")).join(folder);
     let mut files = Vec::new();
     for entry in fs::read_dir(folder)? {
         let path = entry?.path();

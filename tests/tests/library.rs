@@ -78,11 +78,12 @@ fn cases() -> Vec<Vec<u8>> {
     files
 }
 
-/// The plan files of the cases and of bench/.
+/// The plan files of the cases, of bench/ and of examples/.
 fn files() -> Vec<Vec<u8>> {
-    let bench = timing::files().expect("the bench files").into_iter();
+    let bench = timing::files().expect("the bench files");
+    let examples = timing::examples().expect("the examples");
     let mut files = cases();
-    files.extend(bench.map(|file| file.bytes));
+    files.extend(bench.into_iter().chain(examples).map(|file| file.bytes));
     files
 }
 
@@ -112,7 +113,7 @@ fn made_up(random: &mut Random, rounds: usize) -> Vec<Vec<u8>> {
 }
 
 #[test]
-fn plans_of_the_cases_and_the_bench_files() {
+fn plans_of_the_cases_and_the_bench_files_and_the_examples() {
     for file in files() {
         let _ = same_plan(&file, PROGRAM_ROOM);
     }
@@ -141,7 +142,7 @@ fn plans_in_every_room() {
 }
 
 #[test]
-fn candidates_of_the_cases_and_the_bench_files() {
+fn candidates_of_the_cases_and_the_bench_files_and_the_examples() {
     let random = &mut Random::new(1);
     for file in files() {
         same_candidates(random, &file);
@@ -156,10 +157,9 @@ fn candidates_of_made_up_files() {
     }
 }
 
-/// The same weighing or the same refusal, by value and from a slice.
+/// The same weighing or the same refusal.
 fn same_weighing(rows: &[Row]) {
     assert_eq!(library::weigh(rows), weigh(rows), "{rows:?}");
-    assert_eq!(library::weigh_by_value(rows), weigh(rows), "{rows:?}");
 }
 
 #[test]

@@ -256,6 +256,21 @@ fn small_plans_equal_brute_force() {
     assert!(longer_lists > 100 && later_pairs > 10);
 }
 
+/// Every part's list and the plan built from these; there are too many choices for all budgets.
+#[test]
+fn example_plans_equal_brute_force() {
+    let examples = timing::examples().expect("the examples");
+    assert!(examples.len() >= 6, "only {} examples", examples.len());
+    for example in examples {
+        for part in 1..=file::read(&example.bytes).expect("a readable file").len() {
+            same_candidates(&example.bytes, part);
+        }
+        let fast = plan(&example.bytes, PROGRAM_ROOM).map(|listing| lossy(&listing));
+        let slow = literal::plan_of_kept(&example.bytes);
+        assert_eq!(fast.map_err(tuple), slow, "{}", example.name);
+    }
+}
+
 #[test]
 fn lists_and_ceilings_of_one_part_equal_brute_force() {
     let mut random = Random::new(3);

@@ -6,7 +6,7 @@ use std::error::Error;
 use std::hint::black_box;
 
 use reference::timing::{self, time_of, BenchFile};
-use reference::{candidates, file, library, plan, PROGRAM_ROOM};
+use reference::{candidates, file, plan, PROGRAM_ROOM};
 
 fn line(name: &str, what: &str, ours: u128, theirs: u128) {
     let ratio = ours as f64 / theirs as f64;
@@ -20,13 +20,13 @@ fn main() -> Result<(), Box<dyn Error>> {
             .map_err(|refusal| format!("{name}: {refusal:?}"))?
             .len();
         let mut out = [0u8; PROGRAM_ROOM];
-        let ours = time_of(|| library::plan(black_box(&bytes), &mut out));
+        let ours = time_of(|| planner::plan_into(black_box(&bytes), &mut out).is_ok());
         let theirs = time_of(|| plan(black_box(&bytes), PROGRAM_ROOM));
         line(&name, "plan", ours, theirs);
         for (what, numbers) in [("read", 0..=0), ("candidates", 1..=parts)] {
             let ours = time_of(|| {
                 for part in numbers.clone() {
-                    let _ = black_box(library::candidates(black_box(&bytes), part));
+                    let _ = black_box(planner::candidates(black_box(&bytes), part));
                 }
             });
             let theirs = time_of(|| {

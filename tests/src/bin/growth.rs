@@ -5,7 +5,7 @@ use std::fmt::Write;
 use std::hint::black_box;
 
 use reference::timing::time_of;
-use reference::{library, plan, PROGRAM_ROOM};
+use reference::{plan, PROGRAM_ROOM};
 
 #[derive(Clone, Copy)]
 struct Size {
@@ -38,11 +38,11 @@ fn file(size: Size) -> Vec<u8> {
 fn line(what: &str, value: u64, size: Size) {
     let bytes = file(size);
     let mut out = [0u8; PROGRAM_ROOM];
-    let answer = match library::plan(&bytes, &mut out) {
+    let answer = match planner::plan_into(&bytes, &mut out) {
         Ok(_) => "planned".to_owned(),
         Err(refusal) => format!("{} ({})", refusal.number, refusal.place),
     };
-    let ours = time_of(|| library::plan(black_box(&bytes), &mut out));
+    let ours = time_of(|| planner::plan_into(black_box(&bytes), &mut out).is_ok());
     let theirs = time_of(|| plan(black_box(&bytes), PROGRAM_ROOM));
     let ratio = ours as f64 / theirs as f64;
     let length = bytes.len();

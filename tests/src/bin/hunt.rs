@@ -12,7 +12,7 @@ use reference::file::MOST_PARTS;
 use reference::hunt::starts::{start, Kind};
 use reference::hunt::{changes, climb, Sketch};
 use reference::random::Random;
-use reference::{library, timing, PROGRAM_ROOM};
+use reference::{timing, PROGRAM_ROOM};
 
 /// A changed file is taken if it is slower by this factor.
 const SLOWER: f64 = 1.02;
@@ -159,7 +159,7 @@ fn plan(bytes: &[u8], least: f64) -> (f64, bool) {
     let (mut time, mut refused) = (f64::MAX, false);
     for _ in 0..3 {
         let begin = timing::used();
-        let answer = black_box(library::plan(black_box(bytes), &mut out));
+        let answer = black_box(planner::plan_into(black_box(bytes), &mut out));
         time = time.min(1000.0 * (timing::used() - begin).as_secs_f64());
         refused = answer.is_err_and(|refusal| refusal.number == 10);
         if time <= least || time > LONG {

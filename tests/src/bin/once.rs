@@ -5,7 +5,7 @@
 use std::hint::black_box;
 use std::{env, error::Error, fs};
 
-use reference::{candidates, library, plan, PROGRAM_ROOM};
+use reference::{candidates, plan, PROGRAM_ROOM};
 
 fn main() -> Result<(), Box<dyn Error>> {
     let mut words = env::args().skip(1);
@@ -19,12 +19,12 @@ fn main() -> Result<(), Box<dyn Error>> {
         if word == "plan" {
             let mut out = [0u8; PROGRAM_ROOM];
             if by_library {
-                let _ = black_box(library::plan(&bytes, &mut out));
+                let _ = black_box(planner::plan_into(&bytes, &mut out));
             } else {
                 let _ = black_box(plan(&bytes, PROGRAM_ROOM));
             }
         } else if by_library {
-            let _ = black_box(library::candidates(&bytes, word.parse()?));
+            let _ = black_box(planner::candidates(&bytes, word.parse()?));
         } else {
             let _ = black_box(candidates(&bytes, word.parse()?));
         }
