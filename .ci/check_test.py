@@ -494,7 +494,7 @@ echo "$asked" >>"$ASKED"
 [ "$asked" != "$FAILING" ]
 '''
 COMMANDS = [
-    'rt ci', 'rt fmt --check', 'python3 .ci/check_test.py', 'python3 .ci/check.py', 'build library',
+    'rt ci', 'rt fmt --check', 'python3 .ci/check_test.py', 'python3 .ci/check.py', 'build plan', 'build library',
     'cargo test --offline --quiet --features library --manifest-path tests/Cargo.toml', 'cargo test --offline --quiet --manifest-path rust/planner/Cargo.toml --target-dir target/rust',
     'integrators ', 'stack ', 'program ', 'wrapper ', 'install ', 'example_plans ',
 ]
