@@ -24,7 +24,7 @@ le-neg a zero l = omega arith
 le-neg zero (suc b) l = absurd (l .le)
 le-neg (suc a) (suc b) l = omega (arith, leb→le b a (l .le))
 
-neg-le-pos : (a n : ℕ) → negℤ (pos a) ≤ℤ pos n
+pub neg-le-pos : (a n : ℕ) → negℤ (pos a) ≤ℤ pos n
 neg-le-pos zero n = record { le = le→leb 0 n (omega arith) }
 neg-le-pos (suc a) n = record { le = tt }
 

@@ -2,3 +2,4 @@ pub mod SupplyLaws
 pub mod SupplySigned
 pub mod CeilingLaws
 pub mod Small
+pub mod Linear

@@ -19,7 +19,7 @@ pub pos-minus : (a b : ℕ) → b ≤ a → pos a -ℤ pos b ≡ pos (a - b)
 pos-minus a zero l = ap pos (omega arith)
 pos-minus a (suc b) l = rw (le-ltb a (suc b) l)
 
-below-minus : (a b : ℕ) → a < b → pos a -ℤ pos b ≡ negsuc (b - suc a)
+pub below-minus : (a b : ℕ) → a < b → pos a -ℤ pos b ≡ negsuc (b - suc a)
 below-minus a zero l = absurd (omega arith)
 below-minus a (suc b) l = rw (lt-ltb a (suc b) l)
 

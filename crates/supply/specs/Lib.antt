@@ -1,2 +1,3 @@
 pub mod Supply
 pub mod Signed
+pub mod Linear

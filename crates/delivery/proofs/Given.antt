@@ -1,0 +1,64 @@
+-- Laws of given ticks: windows one behind another, a longer window, and the ticks that are not given.
+-- Assumes nothing.
+use Prim.Native.Nat.{ℕ, zero, suc, _+_, _-_, _≤_}
+use native.Mathlib.Nat.{suc-add, add-suc, add-zero, zero-add}
+use native.Mathlib.Omega.{arith}
+use mathlib.Core.Path.{_≡_, refl, ap, _∙_}
+use mathlib.Core.Bool.{Bool, true, false, cond}
+use mathlib.Core.List.{_∷_}
+use lib.ListN.{length}
+use Rattle.least.specs.Lists.{countFrom, those}
+use Rattle.least.proofs.Lists.{those-pass, those-fail}
+use Rattle.delivery.specs.Assignment.{Assignment, given}
+
+-- a tick as a number
+abbrev pub tick : Bool → ℕ
+tick b = cond b 1 0
+
+pub tick-le : (b : Bool) → tick b ≤ 1
+tick-le true = omega arith
+tick-le false = omega arith
+
+module _ (A : Assignment) where
+  pub given-none : (s : ℕ) → given A s 0 ≡ 0
+  unfolding given countFrom those
+  given-none s = refl
+
+  pub given-first : (s t : ℕ) → given A s (suc t) ≡ tick (A s) + given A (suc s) t
+  unfolding given countFrom
+  given-first s t = go (A s) refl
+    where
+      go : (b : Bool) → A s ≡ b → length (those A (s ∷ countFrom (suc s) t)) ≡ tick b + length (those A (countFrom (suc s) t))
+      go true e = rw (those-pass A s (countFrom (suc s) t) e) (omega arith)
+      go false e = rw (those-fail A s (countFrom (suc s) t) e) (omega arith)
+
+  pub given-le : (s t : ℕ) → given A s t ≤ t
+  given-le s zero = omega (arith, given-none s)
+  given-le s (suc t) = omega (arith, given-first s t, tick-le (A s), given-le (suc s) t)
+
+  pub given-append : (s t u : ℕ) → given A s (t + u) ≡ given A s t + given A (s + t) u
+  given-append s zero u = rw (zero-add u, add-zero s) (omega (arith, given-none s))
+  given-append s (suc t) u =
+      let ih : given A (suc s) (t + u) ≡ given A (suc s) t + given A (s + suc t) u = rw (suc-add s t, ← add-suc s t) at (given-append (suc s) t u) in
+      rw (suc-add t u) (omega (arith, given-first s (t + u), given-first s t))
+
+  pub given-last : (s t : ℕ) → given A s (suc t) ≡ given A s t + tick (A (s + t))
+  given-last s t =
+      let e : t + 1 ≡ suc t = omega arith in
+      omega (arith, rw e at (given-append s t 1), given-first (s + t) 0, given-none (suc (s + t)))
+
+  -- a longer window has no fewer
+  pub given-mono : (s t u : ℕ) → t ≤ u → given A s t ≤ given A s u
+  given-mono s t u h =
+      let e : t + (u - t) ≡ u = omega arith in
+      omega (arith, rw e at (given-append s t (u - t)))
+
+  -- a window, by the ticks from 0 on
+  pub given-window : (s t : ℕ) → given A 0 (s + t) ≡ given A 0 s + given A s t
+  given-window s t = given-append 0 s t ∙ ap (λ (y : ℕ). given A 0 s + given A y t) (zero-add s)
+
+  -- the ticks up to z that are not given are no fewer than those up to y
+  pub missed-mono : (y z : ℕ) → y ≤ z → given A 0 z + y ≤ given A 0 y + z
+  missed-mono y z h =
+      let e : y + (z - y) ≡ z = omega arith in
+      omega (arith, rw e at (given-window y (z - y)), given-le y (z - y))

@@ -1,0 +1,5 @@
+pub mod Given
+pub mod Windows
+pub mod EarlyThenLate
+pub mod SupplyIsLeast
+pub mod Example

@@ -1,0 +1,2 @@
+pub mod Assignment
+pub mod LeastGiven

@@ -1,0 +1,1 @@
+// Ticks that are given to a part: no function. Definitions are in specs/, laws in proofs/.
