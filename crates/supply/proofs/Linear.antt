@@ -6,7 +6,7 @@ use native.Mathlib.Omega.{arith}
 use native.Mathlib.Decide.{decLe}
 use mathlib.Core.Path.{_≡_, sym, ap, _∙_}
 use lib.Dec.{le→leb}
-use lib.IntN.{pos, _-ℤ_, _*ℤ_}
+use lib.IntN.{ℤ, pos, negℤ, _*ℤ_}
 use lib.Signed.{_≤ℤ_}
 use Rattle.least.specs.Round.{ceilDiv}
 use Rattle.least.proofs.Round.{ceil-covers, ceil-least}
@@ -15,6 +15,16 @@ use Rattle.supply.specs.Linear.{linearTimesP, LinearNeverAbove}
 use Rattle.supply.proofs.SupplyLaws.{reach, reach-needed, reach-enough}
 use Rattle.supply.proofs.SupplySigned.{pos-minus, below-minus}
 use Rattle.supply.proofs.CeilingLaws.{neg-le-pos}
+
+-- behind two waits, and before
+module _ (P Q t : ℕ) (b : Q ≤ P) where
+  linear-from : 2 * (P - Q) ≤ t → linearTimesP (pos P) (pos Q) (pos t) ≡ pos (Q * (t - 2 * (P - Q)))
+  unfolding linearTimesP
+  linear-from l = rw (pos-minus P Q b) (ap (λ (z : ℤ). pos Q *ℤ z) (pos-minus t (2 * (P - Q)) l))
+
+  linear-before : t < 2 * (P - Q) → linearTimesP (pos P) (pos Q) (pos t) ≡ negℤ (pos (Q * suc (2 * (P - Q) - suc t)))
+  unfolding linearTimesP
+  linear-before l = rw (pos-minus P Q b) (ap (λ (z : ℤ). pos Q *ℤ z) (below-minus t (2 * (P - Q)) l))
 
 module _ (P Q t : ℕ) (h : 1 ≤ Q) (b : Q ≤ P) where
   -- the next tick of supply is not there yet
@@ -41,17 +51,12 @@ module _ (P Q t : ℕ) (h : 1 ≤ Q) (b : Q ≤ P) where
       let e : P * x ≡ (P - Q) * x + Q * x = ap (λ (y : ℕ). y * x) (sym (sub-add-cancel b)) ∙ add-mul (P - Q) Q x in
       omega (arith, mul-le-mul-left Q u, mul-le-mul-right (P - Q) j)
 
-  -- in signed numbers: what is subtracted may be more than t
-  linear-signed : linearTimesP (pos P) (pos Q) (pos t) ≤ℤ pos (P * supplyOf P Q t)
-  unfolding linearTimesP
-  linear-signed = rw (pos-minus P Q b) (go (decLe (2 * (P - Q)) t))
-    where
-      go : Dec (2 * (P - Q) ≤ t) → (pos Q *ℤ (pos t -ℤ pos (2 * (P - Q)))) ≤ℤ pos (P * supplyOf P Q t)
-      go (yes l) = rw (pos-minus t (2 * (P - Q)) l) (record { le = le→leb (Q * (t - 2 * (P - Q))) (P * supplyOf P Q t) linear-below })
-      go (no l) = rw (below-minus t (2 * (P - Q)) (omega arith)) (neg-le-pos (Q * suc (2 * (P - Q) - suc t)) (P * supplyOf P Q t))
-
 pub linear-never-above : LinearNeverAbove
-linear-never-above = linear-signed
+linear-never-above P Q t h b = go (decLe (2 * (P - Q)) t)
+  where
+    go : Dec (2 * (P - Q) ≤ t) → linearTimesP (pos P) (pos Q) (pos t) ≤ℤ pos (P * supplyOf P Q t)
+    go (yes l) = rw (linear-from P Q t b l) (record { le = le→leb (Q * (t - 2 * (P - Q))) (P * supplyOf P Q t) (linear-below P Q t h b) })
+    go (no l) = rw (linear-before P Q t b (omega arith)) (neg-le-pos (Q * suc (2 * (P - Q) - suc t)) (P * supplyOf P Q t))
 
 module _ (P Q k : ℕ) (h : 1 ≤ Q) (b : Q ≤ P) where
   -- after two waits and k whole periods
@@ -80,10 +85,9 @@ module _ (P Q k : ℕ) (h : 1 ≤ Q) (b : Q ≤ P) where
 
   -- where the ticks of a round begin, the linear value is the supply
   pub linear-meets : linearTimesP (pos P) (pos Q) (pos (2 * (P - Q) + k * P)) ≡ pos (P * supplyOf P Q (2 * (P - Q) + k * P))
-  unfolding linearTimesP
   linear-meets =
       let past : 2 * (P - Q) + k * P - 2 * (P - Q) ≡ k * P = omega arith in
-      rw (supply-whole, pos-minus P Q b, pos-minus (2 * (P - Q) + k * P) (2 * (P - Q)) (omega arith), past) (ap pos (swap Q k P))
+      linear-from P Q (2 * (P - Q) + k * P) b (omega arith) ∙ rw (supply-whole, past) (ap pos (swap Q k P))
     where
       swap : (x y z : ℕ) → x * (y * z) ≡ z * (y * x)
       swap x y z = mul-comm x (y * z) ∙ mul-right-comm y z x ∙ mul-comm (y * x) z
