@@ -10,7 +10,10 @@ PAGES = {
         'crates/answers/specs/Choice.antt', 'crates/examples/specs/Table.antt', 'crates/examples/specs/Files.antt', 'crates/examples/specs/WrongPlanners.antt',
         'crates/candidates/specs/Statement.antt', 'crates/plan_file/specs/Statement.antt', 'crates/refusal/specs/FirstNo.antt', 'crates/least/specs/Each.antt',
     ],
-    REQUESTS: ['crates/scan/specs/Line.antt', 'crates/scan/specs/Scan.antt', 'crates/ranges/specs/Ranges.antt'],
+    REQUESTS: [
+        'crates/scan/specs/Line.antt', 'crates/scan/specs/Scan.antt', 'crates/ranges/specs/Ranges.antt',
+        'crates/delivery/specs/Assignment.antt', 'crates/delivery/specs/LeastGiven.antt', 'crates/supply/specs/Linear.antt', 'crates/hand_set/specs/LeastSupply.antt',
+    ],
 }
 NAMED = {
     DEMANDS: {
@@ -18,10 +21,14 @@ NAMED = {
         'crates/load/specs/Weigh.antt': ['RowFits'],
         'crates/supply/specs/Signed.antt': ['larger', 'ceilOf', 'signedRound', 'signedAt', 'signedSupply'],
     },
-    REQUESTS: {'crates/text/specs/Bytes.antt': ['Line', 'intoLine', 'linesOf'], 'crates/refusal/specs/Limits.antt': ['numberLimit']},
+    REQUESTS: {
+        'crates/text/specs/Bytes.antt': ['Line', 'intoLine', 'linesOf'],
+        'crates/refusal/specs/Limits.antt': ['numberLimit'],
+        'crates/supply/specs/Supply.antt': ['roundOf', 'supplyAt', 'supplyOf'],
+    },
 }
 # The crates with the proofs of what the pages say.
-PROVERS = ['answers', 'planner', 'examples', 'scan', 'ranges']
+PROVERS = ['answers', 'planner', 'examples', 'scan', 'ranges', 'supply', 'delivery', 'hand_set']
 
 
 def without_comments(text, antt):

@@ -91,7 +91,9 @@ planner_weigh_answer planner_weigh(planner_rows rows);
 /* The same of a list of any length. */
 planner_weigh_answer planner_weigh_slice(const planner_row *rows, size_t count);
 
-/* What a budget of `budget` in every `period` ticks supplies in `time` ticks. */
+/* What a budget of `budget` in every `period` ticks supplies in `time` ticks: the fewest ticks that
+   the part gets in so many in a row, wherever these start and wherever in each period its budget
+   comes. */
 typedef struct {
     uint64_t number, place, ticks;
 } planner_supply_answer;

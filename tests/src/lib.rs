@@ -11,6 +11,7 @@
 //! - [`timing`]: nanoseconds a run
 //! - [`hunt`]: plan files that take long, made and changed
 //! - [`programs`]: the programs under crates/ and what each must print
+//! - [`delivery`]: the ticks that a budget gives, by brute force
 //! - [`by_hand`]: the numbers that the test program of that name hands over
 //! - `library`: the planner's own library, with the feature of that name
 //!
@@ -19,6 +20,7 @@
 use std::ops::Range;
 
 pub mod by_hand;
+pub mod delivery;
 pub mod edges;
 pub mod file;
 pub mod hunt;

@@ -9,7 +9,8 @@ use reference::file::LARGEST_NUMBER;
 use reference::random::{self, Random, Sizes};
 use reference::system::Row;
 use reference::{
-    candidates, library, name, plan, programs, supply_answer, timing, weigh, Refusal, PROGRAM_ROOM,
+    candidates, delivery, library, name, plan, programs, supply_answer, timing, weigh, Refusal,
+    PROGRAM_ROOM,
 };
 
 /// Every part number of a file of up to 16 parts, and some that no part has.
@@ -266,6 +267,19 @@ fn supplies_as_documents_000_and_004_have_them() {
             let delay = 2 * (p - q) as u64;
             assert_eq!(library::supply(p as u64, q as u64, delay), Ok(0));
             assert_eq!(library::supply(p as u64, q as u64, delay + 1), Ok(1));
+        }
+    }
+}
+
+#[test]
+fn m108_the_least_over_all_deliveries() {
+    for period in 1..=6 {
+        for budget in 1..=period {
+            let least = delivery::least_given(period, budget);
+            for (time, ticks) in least.into_iter().enumerate() {
+                let answer = library::supply(period as u64, budget as u64, time as u64);
+                assert_eq!(answer, Ok(ticks), "({period},{budget}) at {time}");
+            }
         }
     }
 }

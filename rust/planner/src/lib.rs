@@ -221,7 +221,9 @@ pub fn weigh(rows: &[Row]) -> Result<Weighing, Refusal> {
     })
 }
 
-/// What a budget of `budget` in every `period` ticks supplies at least in `time` ticks. Refusal 12.
+/// What a budget of `budget` in every `period` ticks supplies in `time` ticks: the fewest ticks that
+/// the part gets in so many in a row, wherever these start and wherever in each period its budget
+/// comes. Refusal 12.
 ///
 /// ```
 /// assert_eq!(planner::supply(20, 3, 40)?, 3);
