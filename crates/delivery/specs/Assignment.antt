@@ -1,4 +1,5 @@
--- Which ticks are given to one part, and how many in a window of ticks (request M-108).
+-- Which ticks are given to one part, and how many in a window of ticks (request M-108). In the field an assignment that delivers is a schedule of the
+-- periodic resource (P,Q).
 --   Assignment     == an assignment of ticks: of each tick, from tick 0 on, whether it is given
 --   given A s t    == the number of given ticks in the window of t ticks from s on
 --   Delivers P Q A == exactly Q ticks are given in each period nP to (n+1)P, n from 0 on

@@ -1,4 +1,4 @@
--- The linear value of (P,Q) at t, a straight line under the supply: Q/P × (t − 2(P−Q)), as document 000 has it (lsbf, paper C, equation 3).
+-- The linear value of (P,Q) at t, a straight line under the supply (in the field: linear supply bound function): Q/P × (t − 2(P−Q)). Document 000, paper C, equation (3).
 -- 1 ≤ Q ≤ P is understood.
 --   linearTimesP P Q t == P times the linear value, in signed whole numbers
 --   LinearNeverAbove   == the linear value is never above the supply (request M-108, law `linear-never-above`)

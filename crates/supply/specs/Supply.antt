@@ -1,5 +1,6 @@
--- The supply of (P,Q) in t ticks: the least number of ticks that a budget of Q in every period of P gives in any t ticks.
--- Document 001, section 3.1, as paper 01 writes it in whole ticks. 1 ≤ Q ≤ P is understood.
+-- The supply of (P,Q) in t ticks (in the field: supply bound function): the least number of ticks that a budget of Q in every period of P gives in any t ticks.
+-- Document 001, section 3.1, as paper 01 writes it in whole ticks; that this formula is the least number is the law `supply-is-least` of crate delivery.
+-- 1 ≤ Q ≤ P is understood.
 --   roundOf P Q t  == k: the larger of ⌈(t − (P−Q))/P⌉ and 1
 --   supplyOf P Q t == the supply of (P,Q) in t ticks
 --   ReachIs P Q x r == r is the least t in which (P,Q) supplies x ticks
