@@ -1,7 +1,7 @@
--- Laws of given ticks: windows one behind another, a longer window, and the ticks that are not given.
+-- Laws of given ticks: windows one behind another, a window inside another one, and whole periods.
 -- Assumes nothing.
-use Prim.Native.Nat.{ℕ, zero, suc, _+_, _-_, _≤_}
-use native.Mathlib.Nat.{suc-add, add-suc, add-zero, zero-add}
+use Prim.Native.Nat.{ℕ, zero, suc, _+_, _-_, _*_, _≤_}
+use native.Mathlib.Nat.{suc-add, add-suc, add-zero, zero-add, suc-mul, zero-mul}
 use native.Mathlib.Omega.{arith}
 use mathlib.Core.Path.{_≡_, refl, ap, _∙_}
 use mathlib.Core.Bool.{Bool, true, false, cond}
@@ -9,7 +9,7 @@ use mathlib.Core.List.{_∷_}
 use lib.ListN.{length}
 use Rattle.least.specs.Lists.{countFrom, those}
 use Rattle.least.proofs.Lists.{those-pass, those-fail}
-use Rattle.delivery.specs.Assignment.{Assignment, given}
+use Rattle.delivery.specs.Assignment.{Assignment, given, Delivers}
 
 -- a tick as a number
 abbrev pub tick : Bool → ℕ
@@ -47,18 +47,32 @@ module _ (A : Assignment) where
       let e : t + 1 ≡ suc t = omega arith in
       omega (arith, rw e at (given-append s t 1), given-first (s + t) 0, given-none (suc (s + t)))
 
-  -- a longer window has no fewer
-  pub given-mono : (s t u : ℕ) → t ≤ u → given A s t ≤ given A s u
-  given-mono s t u h =
-      let e : t + (u - t) ≡ u = omega arith in
-      omega (arith, rw e at (given-append s t (u - t)))
-
   -- a window, by the ticks from 0 on
   pub given-window : (s t : ℕ) → given A 0 (s + t) ≡ given A 0 s + given A s t
   given-window s t = given-append 0 s t ∙ ap (λ (y : ℕ). given A 0 s + given A y t) (zero-add s)
 
-  -- the ticks up to z that are not given are no fewer than those up to y
-  pub missed-mono : (y z : ℕ) → y ≤ z → given A 0 z + y ≤ given A 0 y + z
+  -- up to a later tick there are no fewer given ticks, and no fewer that are not given
+  given-mono : (y z : ℕ) → y ≤ z → given A 0 y ≤ given A 0 z
+  given-mono y z h =
+      let e : y + (z - y) ≡ z = omega arith in
+      omega (arith, rw e at (given-window y (z - y)))
+
+  missed-mono : (y z : ℕ) → y ≤ z → given A 0 z + y ≤ given A 0 y + z
   missed-mono y z h =
       let e : y + (z - y) ≡ z = omega arith in
       omega (arith, rw e at (given-window y (z - y)), given-le y (z - y))
+
+  -- a window inside another one has no more given ticks, and no more that are not given
+  module _ (s t y u : ℕ) (a : s ≤ y) (b : y + u ≤ s + t) where
+    pub given-inside : given A y u ≤ given A s t
+    given-inside = omega (arith, given-window y u, given-window s t, given-mono s y a, given-mono (y + u) (s + t) b)
+
+    pub missed-inside : given A s t + u ≤ given A y u + t
+    missed-inside = omega (arith, given-window y u, given-window s t, missed-mono s y a, missed-mono (y + u) (s + t) b)
+
+-- the first n periods
+pub given-periods : (P Q : ℕ) (A : Assignment) → Delivers P Q A → (n : ℕ) → given A 0 (n * P) ≡ n * Q
+given-periods P Q A d zero = rw (zero-mul P, zero-mul Q) (given-none A 0)
+given-periods P Q A d (suc n) =
+    let e : suc n * P ≡ n * P + P = suc-mul n P in
+    rw e (omega (arith, given-window A (n * P) P, d n, given-periods P Q A d n, suc-mul n Q))

@@ -1,2 +1,1 @@
 pub mod Assignment
-pub mod LeastGiven

@@ -162,7 +162,7 @@ module _ (s : List ℕ) (k : ℕ) where
 
 -- supply
 module _ (P Q t : ℕ) where
-  abbrev inRange : Bool
+  abbrev pub inRange : Bool
   inRange = (leb 1 Q && leb Q P) && (leb P numberLimit && leb t numberLimit)
 
   pub supply-fits-iff : (inRange ≡ true) ↔ SupplyFits P Q t

@@ -3,7 +3,8 @@
 --   PermittedAt ts l r   == lock l may have the ceiling r: it is from the lock's lowest to n, and w exists and is at most the smallest deadline among the users
 --   PartHolding ts m σ X == X is the greatest w, or 0 without locks
 --   BlockingIs m σ lower b == b is the blocking of task i, where the i − 1 tasks before it are `lower`: the greatest c of one of them on a lock with ceiling ≥ i, else 0
---   Passes P ts m σ Q    == for each i some t, 1 ≤ t ≤ D_i, has C_i + Σ_{k>i} ⌈t/T_k⌉×C_k + blocking ≤ supply(t)
+--   PassesBy got ts m σ  == for each i some t, 1 ≤ t ≤ D_i, has C_i + Σ_{k>i} ⌈t/T_k⌉×C_k + blocking ≤ got(t)
+--   Passes P ts m σ Q    == the same with supply(t)
 --   LeastPassing P ts m σ Q == Q is the least budget, 1 ≤ Q ≤ P, that passes
 --   ShownAt ts x l r     == r is the ceiling shown of lock l for x: the lowest whose w is at most x and permitted
 --   LocalTest            == these are the permitted settings, holding times, blockings, budgets, candidates and ceilings that the answers are made of
@@ -51,10 +52,13 @@ pub record BlockingIs (m : ℕ) (σ : Setting) (lower : List Task) (b : ℕ) : T
   pub each : (h : Task) (l : ℕ) → Blocks m σ lower h l → heldFor l h ≤ b
   pub one : (b ≡ 0) ⊎ ((h : Task) × (l : ℕ) × Blocks m σ lower h l × (b ≡ heldFor l h))
 
-abbrev pub Passes : ℕ → List Task → ℕ → Setting → ℕ → Type 0
-Passes P ts m σ Q =
+abbrev pub PassesBy : (ℕ → ℕ) → List Task → ℕ → Setting → Type 0
+PassesBy got ts m σ =
     (lower : List Task) (task : Task) (higher : List Task) → lower ++ (task ∷ higher) ≡ ts
-    → (t : ℕ) × (1 ≤ t) × (t ≤ task .deadline) × (task .cost + demandIn higher t + blockingOf m σ lower ≤ supplyOf P Q t)
+    → (t : ℕ) × (1 ≤ t) × (t ≤ task .deadline) × (task .cost + demandIn higher t + blockingOf m σ lower ≤ got t)
+
+abbrev pub Passes : ℕ → List Task → ℕ → Setting → ℕ → Type 0
+Passes P ts m σ Q = PassesBy (supplyOf P Q) ts m σ
 
 pub record LeastPassing (P : ℕ) (ts : List Task) (m : ℕ) (σ : Setting) (Q : ℕ) : Type 0 where
   pub some : 1 ≤ Q

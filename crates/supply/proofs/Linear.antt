@@ -1,6 +1,6 @@
 -- The linear value is never above the supply, and meets it where each round's ticks begin.
 -- Assumes nothing.
-use Prim.Native.Nat.{ℕ, zero, suc, _+_, _-_, _*_, _/_, _≤_, _<_}
+use Prim.Native.Nat.{ℕ, suc, _+_, _-_, _*_, _/_, _≤_, _<_}
 use native.Mathlib.Nat.{le-refl, div-add-mod', lt-div-mul-add, mul-comm, mul-right-comm, mul-add, mul-le-mul-right, mul-le-mul-left, sub-add-cancel, add-mul}
 use native.Mathlib.Omega.{arith}
 use native.Mathlib.Decide.{decLe}
@@ -11,7 +11,7 @@ use lib.Signed.{_≤ℤ_}
 use Rattle.least.specs.Round.{ceilDiv}
 use Rattle.least.proofs.Round.{ceil-covers, ceil-least}
 use Rattle.supply.specs.Supply.{supplyOf}
-use Rattle.supply.specs.Linear.{linearTimesP, LinearNeverAbove}
+use Rattle.supply.specs.Linear.{linearTimesP, LinearUnderSupply}
 use Rattle.supply.proofs.SupplyLaws.{reach, reach-needed, reach-enough}
 use Rattle.supply.proofs.SupplySigned.{pos-minus, below-minus}
 use Rattle.supply.proofs.CeilingLaws.{neg-le-pos}
@@ -51,7 +51,7 @@ module _ (P Q t : ℕ) (h : 1 ≤ Q) (b : Q ≤ P) where
       let e : P * x ≡ (P - Q) * x + Q * x = ap (λ (y : ℕ). y * x) (sym (sub-add-cancel b)) ∙ add-mul (P - Q) Q x in
       omega (arith, mul-le-mul-left Q u, mul-le-mul-right (P - Q) j)
 
-pub linear-never-above : LinearNeverAbove
+linear-never-above : (P Q t : ℕ) → 1 ≤ Q → Q ≤ P → linearTimesP (pos P) (pos Q) (pos t) ≤ℤ pos (P * supplyOf P Q t)
 linear-never-above P Q t h b = go (decLe (2 * (P - Q)) t)
   where
     go : Dec (2 * (P - Q) ≤ t) → linearTimesP (pos P) (pos Q) (pos t) ≤ℤ pos (P * supplyOf P Q t)
@@ -84,10 +84,13 @@ module _ (P Q k : ℕ) (h : 1 ≤ Q) (b : Q ≤ P) where
               omega (arith, ceil-covers (suc (k * Q)) Q h, mul-le-mul-right Q c′)
 
   -- where the ticks of a round begin, the linear value is the supply
-  pub linear-meets : linearTimesP (pos P) (pos Q) (pos (2 * (P - Q) + k * P)) ≡ pos (P * supplyOf P Q (2 * (P - Q) + k * P))
+  linear-meets : linearTimesP (pos P) (pos Q) (pos (2 * (P - Q) + k * P)) ≡ pos (P * supplyOf P Q (2 * (P - Q) + k * P))
   linear-meets =
       let past : 2 * (P - Q) + k * P - 2 * (P - Q) ≡ k * P = omega arith in
       linear-from P Q (2 * (P - Q) + k * P) b (omega arith) ∙ rw (supply-whole, past) (ap pos (swap Q k P))
     where
       swap : (x y z : ℕ) → x * (y * z) ≡ z * (y * x)
       swap x y z = mul-comm x (y * z) ∙ mul-right-comm y z x ∙ mul-comm (y * x) z
+
+pub linear-under-supply : LinearUnderSupply
+linear-under-supply = record { never-above = linear-never-above; meets = linear-meets }

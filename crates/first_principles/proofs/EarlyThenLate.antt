@@ -12,10 +12,10 @@ use Rattle.least.specs.Round.{ceilDiv}
 use Rattle.least.proofs.Round.{ceil-least}
 use Rattle.supply.specs.Supply.{supplyOf}
 use Rattle.supply.proofs.SupplyLaws.{reach, reach-enough}
 use Rattle.delivery.specs.Assignment.{Assignment, given, Delivers}
-use Rattle.delivery.specs.LeastGiven.{earlyThenLate}
-use Rattle.delivery.proofs.Given.{tick, given-none, given-last, given-window}
-use Rattle.delivery.proofs.Windows.{given-periods, supply-le-given}
+use Rattle.first_principles.specs.FirstPrinciples.{earlyThenLate}
+use Rattle.delivery.proofs.Given.{tick, given-none, given-last, given-window, given-periods}
+use Rattle.first_principles.proofs.Windows.{supply-le-delivered}
 
 -- one tick more up to q, and one tick more behind g
 tick-min : (r q : ℕ) → min r q + tick (ltb r q) ≡ min (suc r) q
@@ -71,7 +71,7 @@ module _ (g q : ℕ) (h : 1 ≤ q) where
     worst-count : given worst q t ≡ m * q + (r - g)
     worst-count =
         let w : given worst 0 (suc m * (g + q) + r) ≡ given worst 0 q + given worst q t = rw (← e) at (given-window worst q t) in
-        omega (arith, given-window worst (suc m * (g + q)) r, given-periods g q worst worst-delivers (suc m), late-given (suc m) r (omega arith) (omega arith), early-given q (omega arith))
+        omega (arith, given-window worst (suc m * (g + q)) r, given-periods (g + q) q worst worst-delivers (suc m), late-given (suc m) r (omega arith) (omega arith), early-given q (omega arith))
 
     -- it is long enough for a supply of as many ticks
     worst-long : reach (g + q) q (m * q + (r - g)) ≤ t
@@ -93,12 +93,11 @@ module _ (g q : ℕ) (h : 1 ≤ q) where
       go (suc m) e =
           rw (worst-count t m _ e below) (reach-enough (g + q) q t _ h (omega arith) (worst-long t m _ e below))
 
-module _ (P Q : ℕ) (h : 1 ≤ Q) (b : Q ≤ P) where
-  pub early-delivers : Delivers P Q (earlyThenLate P Q)
-  early-delivers = rw (sub-add-cancel b) at (worst-delivers (P - Q) Q h)
+pub early-delivers : (P Q : ℕ) → 1 ≤ Q → Q ≤ P → Delivers P Q (earlyThenLate P Q)
+early-delivers P Q h b = rw (sub-add-cancel b) at (worst-delivers (P - Q) Q h)
 
-  -- in the window of t ticks from tick Q on
-  pub early-is-supply : (t : ℕ) → given (earlyThenLate P Q) Q t ≡ supplyOf P Q t
-  early-is-supply t =
-      let most : given (earlyThenLate P Q) Q t ≤ supplyOf P Q t = rw (sub-add-cancel b) at (worst-most (P - Q) Q h t) in
-      omega (arith, supply-le-given P Q h b t (earlyThenLate P Q) early-delivers Q)
+-- in the window of t ticks from tick Q on
+pub early-is-supply : (P Q t : ℕ) → 1 ≤ Q → Q ≤ P → given (earlyThenLate P Q) Q t ≡ supplyOf P Q t
+early-is-supply P Q t h b =
+    let most : given (earlyThenLate P Q) Q t ≤ supplyOf P Q t = rw (sub-add-cancel b) at (worst-most (P - Q) Q h t) in
+    omega (arith, supply-le-delivered P Q t h b (earlyThenLate P Q) (early-delivers P Q h b) Q)

@@ -1,0 +1,4 @@
+pub mod Windows
+pub mod EarlyThenLate
+pub mod Example
+pub mod FirstPrinciples
