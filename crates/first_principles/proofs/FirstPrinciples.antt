@@ -11,15 +11,13 @@ use Rattle.refusal.specs.Questions.{whenDone, firstNo}
 use Rattle.refusal.specs.declared.Outcome.the-variants.{Done}
 use Rattle.refusal.proofs.Answers.{done-not-refused}
 use Rattle.supply.specs.Supply.{supplyOf}
-use Rattle.delivery.specs.Assignment.{Assignment, given, Delivers}
 use Rattle.task_set.specs.declared.Task.{Task}
 use Rattle.task_set.specs.Blocking.{Setting}
 use Rattle.budget.specs.Budget.{passes}
 use Rattle.answers.specs.Answers.{supplyAnswer, supplied}
-use Rattle.planner.specs.LocalTest.{PassesBy}
 use Rattle.planner.proofs.Refusals.{inRange, supply-fits-iff}
 use Rattle.planner.proofs.LocalTest.{local-test}
-use Rattle.first_principles.specs.FirstPrinciples.{LeastGiven, earlyThenLate, FirstPrinciples}
+use Rattle.first_principles.specs.FirstPrinciples.{LeastGiven, earlyThenLate, PassesDelivered, FirstPrinciples}
 use Rattle.first_principles.proofs.Windows.{supply-le-given, supply-le-delivered}
 use Rattle.first_principles.proofs.EarlyThenLate.{early-delivers, early-is-supply}
 
@@ -48,15 +46,15 @@ supply-answers-the-least P Q t e = go (inRange P Q t) refl e
 
 module _ (P : ℕ) (ts : List Task) (m : ℕ) (σ : Setting) (Q : ℕ) (h : 1 ≤ Q) (b : Q ≤ P) where
   -- at the same t; and by the worst delivery
-  passes-delivered : (passes P ts m σ Q ≡ true) ↔ ((A : Assignment) → Delivers P Q A → (s : ℕ) → PassesBy (given A s) ts m σ)
+  passes-delivered : (passes P ts m σ Q ≡ true) ↔ PassesDelivered P ts m σ Q
   passes-delivered = (to, from)
     where
-      to : passes P ts m σ Q ≡ true → (A : Assignment) → Delivers P Q A → (s : ℕ) → PassesBy (given A s) ts m σ
+      to : passes P ts m σ Q ≡ true → PassesDelivered P ts m σ Q
       to p A d s lower task higher e =
           let w = local-test .budget P ts m σ Q .0 p lower task higher e in
           (w .0, w .1, w .2, le-trans (w .3) (supply-le-delivered P Q (w .0) h b A d s))
 
-      from : ((A : Assignment) → Delivers P Q A → (s : ℕ) → PassesBy (given A s) ts m σ) → passes P ts m σ Q ≡ true
+      from : PassesDelivered P ts m σ Q → passes P ts m σ Q ≡ true
       from f =
           local-test .budget P ts m σ Q .1 (λ lower task higher e.
           let w = f (earlyThenLate P Q) (early-delivers P Q h b) Q lower task higher e in

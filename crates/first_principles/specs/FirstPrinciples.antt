@@ -1,7 +1,8 @@
 -- Request M-108: the supply clause from first principles.
 --   LeastGiven P Q t x == x is the least number of given ticks in any window of t ticks, under any assignment that gives exactly Q ticks in each period of P
 --   earlyThenLate P Q  == a budget delivered early in the first period, and late in every one after it
---   FirstPrinciples    == the supply is this least number, the operation `supply` answers it, and a budget that passes the local test passes however it is delivered
+--   PassesDelivered P ts m σ Q == a budget passes the local test however it is delivered, whatever tick the window of each task starts at
+--   FirstPrinciples    == the supply is this least number, the operation `supply` answers it, and a budget passes the local test exactly if it passes so
 -- Assumes nothing.
 use Prim.Native.Nat.{ℕ, _-_, _*_, _%_, _≤_}
 use mathlib.Core.Path.{_≡_}
@@ -28,6 +29,9 @@ pub record LeastGiven (P Q t x : ℕ) : Type 0 where
 unfoldable pub earlyThenLate : ℕ → ℕ → Assignment
 earlyThenLate P Q y = cond (ltb y P) (ltb y Q) (leb (P - Q) (y % P))
 
+abbrev pub PassesDelivered : ℕ → List Task → ℕ → Setting → ℕ → Type 0
+PassesDelivered P ts m σ Q = (A : Assignment) → Delivers P Q A → (s : ℕ) → PassesBy (given A s) ts m σ
+
 pub record FirstPrinciples : Type 0 where
   -- the exact supply at t is the least number of given ticks in any window of t ticks
   pub least : (P Q t : ℕ) → 1 ≤ Q → Q ≤ P → LeastGiven P Q t (supplyOf P Q t)
@@ -41,6 +45,5 @@ pub record FirstPrinciples : Type 0 where
   pub beyond : (P Q t : ℕ) → 1 ≤ Q → Q ≤ P → (A : Assignment) → ((n : ℕ) → Q ≤ given A (n * P) P) → (s : ℕ) → supplyOf P Q t ≤ given A s t
   -- the operation `supply`, whatever it is asked: if it answers, then with the least number
   pub answered : (P Q t : ℕ) → supplied (supplyAnswer P Q t) .outcome ≡ Done → LeastGiven P Q t (supplied (supplyAnswer P Q t) .ticks)
-  -- a budget passes the local test exactly if it passes however it is delivered, whatever tick the window starts at
-  pub passing : (P : ℕ) (ts : List Task) (m : ℕ) (σ : Setting) (Q : ℕ) → 1 ≤ Q → Q ≤ P
-      → (passes P ts m σ Q ≡ true) ↔ ((A : Assignment) → Delivers P Q A → (s : ℕ) → PassesBy (given A s) ts m σ)
+  -- a budget passes the local test exactly if it passes however it is delivered
+  pub passing : (P : ℕ) (ts : List Task) (m : ℕ) (σ : Setting) (Q : ℕ) → 1 ≤ Q → Q ≤ P → (passes P ts m σ Q ≡ true) ↔ PassesDelivered P ts m σ Q
