@@ -36,9 +36,9 @@ THEOREMS = [
     ('scan', 'scan-settled', 'ScanSettled'),
     ('ranges', 'numbers-up-to', 'NumbersUpTo 1000000'),
     ('ranges', 'greatest-values', 'GreatestValues 1000000'),
-    ('delivery', 'supply-is-least', 'SupplyIsLeast'),
-    ('supply', 'linear-never-above', 'LinearNeverAbove'),
-    ('hand_set', 'supply-answers-the-least', 'AnswersTheLeast'),
+    ('supply', 'supply-signed', 'SignsMakeNoDifference'),
+    ('supply', 'linear-under-supply', 'LinearUnderSupply'),
+    ('first_principles', 'first-principles', 'FirstPrinciples'),
 ]
 # How many rows of the table of examples each letter has.
 ROWS = {'A': 1, 'B': 5, 'C': 2, 'D': 1, 'E': 1, 'F': 1, 'G': 1, 'H': 1, 'I': 1, 'J': 1, 'K': 5, 'L': 3}

@@ -12,7 +12,7 @@ PAGES = {
     ],
     REQUESTS: [
         'crates/scan/specs/Line.antt', 'crates/scan/specs/Scan.antt', 'crates/ranges/specs/Ranges.antt',
-        'crates/delivery/specs/Assignment.antt', 'crates/delivery/specs/LeastGiven.antt', 'crates/supply/specs/Linear.antt', 'crates/hand_set/specs/LeastSupply.antt',
+        'crates/delivery/specs/Assignment.antt', 'crates/first_principles/specs/FirstPrinciples.antt', 'crates/supply/specs/Linear.antt',
     ],
 }
 NAMED = {
@@ -25,10 +25,12 @@ NAMED = {
         'crates/text/specs/Bytes.antt': ['Line', 'intoLine', 'linesOf'],
         'crates/refusal/specs/Limits.antt': ['numberLimit'],
         'crates/supply/specs/Supply.antt': ['roundOf', 'supplyAt', 'supplyOf'],
+        'crates/supply/specs/Signed.antt': ['SignsMakeNoDifference'],
+        'crates/planner/specs/LocalTest.antt': ['PassesBy'],
     },
 }
 # The crates with the proofs of what the pages say.
-PROVERS = ['answers', 'planner', 'examples', 'scan', 'ranges', 'supply', 'delivery', 'hand_set']
+PROVERS = ['answers', 'planner', 'examples', 'scan', 'ranges', 'supply', 'delivery', 'first_principles']
 
 
 def without_comments(text, antt):

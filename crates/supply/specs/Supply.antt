@@ -1,5 +1,5 @@
 -- The supply of (P,Q) in t ticks (in the field: supply bound function): the least number of ticks that a budget of Q in every period of P gives in any t ticks.
--- Document 001, section 3.1, as paper 01 writes it in whole ticks; that this formula is the least number is the law `supply-is-least` of crate delivery.
+-- Document 001, section 3.1, as paper 01 writes it in whole ticks; that this formula is the least number is proved in crate first_principles.
 -- 1 ≤ Q ≤ P is understood.
 --   roundOf P Q t  == k: the larger of ⌈(t − (P−Q))/P⌉ and 1
 --   supplyOf P Q t == the supply of (P,Q) in t ticks
