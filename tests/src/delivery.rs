@@ -12,9 +12,8 @@ pub fn given(assignment: &[bool], start: usize, time: usize) -> usize {
 
 /// Whether exactly `budget` ticks are given in each period; the assignment has whole periods.
 pub fn delivers(assignment: &[bool], period: usize, budget: usize) -> bool {
-    let periods = assignment.chunks(period);
-    periods
-        .into_iter()
+    assignment
+        .chunks(period)
         .all(|ticks| given(ticks, 0, period) == budget)
 }
 
@@ -33,9 +32,9 @@ pub fn early_then_late(period: usize, budget: usize, periods: usize) -> Assignme
 }
 
 /// Of each number of ticks up to three periods: how many are given at least in any window of so
-/// many, over all ways to deliver the budget. A window that starts in a later period is one that
-/// starts in the first, under a delivery that is as good: it is enough to try the starts of the
-/// first period, and four periods in all.
+/// many, over all ways to deliver the budget. What follows a period of a delivery is a delivery
+/// too, so a window that starts in a later period is one that starts in the first, of another
+/// delivery: it is enough to try the starts of the first period, and four periods in all.
 pub fn least_given(period: usize, budget: usize) -> Vec<u64> {
     let ticks = |bits: u32| bits.count_ones() as usize;
     let ways: Vec<u32> = (0..1 << period)

@@ -21,6 +21,17 @@ fn linear_times_p(period: usize, budget: usize, time: usize) -> i64 {
     q * (t - 2 * (p - q))
 }
 
+/// Three ticks in every five, and with one tick too many or too few in either of two periods.
+#[test]
+fn m108_exactly_so_many_in_each_period() {
+    let ticks = |text: &str| -> Assignment { text.chars().map(|tick| tick == '#').collect() };
+    assert!(delivers(&ticks("###....###"), 5, 3));
+    assert!(delivers(&ticks("#.#.#.#.##"), 5, 3));
+    for other in ["####...###", "##.....###", "###...####", "###.....##"] {
+        assert!(!delivers(&ticks(other), 5, 3), "{other}");
+    }
+}
+
 #[test]
 fn m108_the_supply_is_the_least_over_all_deliveries() {
     for period in 1..=7 {

@@ -15,7 +15,7 @@ use Rattle.delivery.specs.Assignment.{Assignment, given, Delivers}
 abbrev pub tick : Bool → ℕ
 tick b = cond b 1 0
 
-pub tick-le : (b : Bool) → tick b ≤ 1
+tick-le : (b : Bool) → tick b ≤ 1
 tick-le true = omega arith
 tick-le false = omega arith
 
@@ -32,7 +32,7 @@ module _ (A : Assignment) where
       go true e = rw (those-pass A s (countFrom (suc s) t) e) (omega arith)
       go false e = rw (those-fail A s (countFrom (suc s) t) e) (omega arith)
 
-  pub given-le : (s t : ℕ) → given A s t ≤ t
+  given-le : (s t : ℕ) → given A s t ≤ t
   given-le s zero = omega (arith, given-none s)
   given-le s (suc t) = omega (arith, given-first s t, tick-le (A s), given-le (suc s) t)
 

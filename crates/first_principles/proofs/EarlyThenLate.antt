@@ -17,7 +17,7 @@ use Rattle.first_principles.specs.FirstPrinciples.{earlyThenLate}
 use Rattle.delivery.proofs.Given.{tick, given-none, given-last, given-window, given-periods}
 use Rattle.first_principles.proofs.Windows.{supply-le-delivered}
 
--- one tick more up to q, and one tick more behind g
+-- of the first r ticks min r q are below q, and r − g from g on: with the next tick there is one more, if it is such a tick
 tick-min : (r q : ℕ) → min r q + tick (ltb r q) ≡ min (suc r) q
 tick-min r q = go (ltb r q) refl
   where

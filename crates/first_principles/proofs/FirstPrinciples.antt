@@ -3,27 +3,26 @@
 use Prim.Native.Nat.{ℕ, _≤_}
 use native.Mathlib.Nat.{le-trans}
 use native.Mathlib.Omega.{arith}
-use mathlib.Core.Path.{_≡_, refl, sym}
-use mathlib.Core.Bool.{Bool, true, false}
+use mathlib.Core.Path.{_≡_}
+use mathlib.Core.Bool.{true}
 use mathlib.Core.Logic.{_↔_}
 use mathlib.Core.List.{List}
-use Rattle.refusal.specs.Questions.{whenDone, firstNo}
 use Rattle.refusal.specs.declared.Outcome.the-variants.{Done}
-use Rattle.refusal.proofs.Answers.{done-not-refused}
 use Rattle.supply.specs.Supply.{supplyOf}
 use Rattle.task_set.specs.declared.Task.{Task}
 use Rattle.task_set.specs.Blocking.{Setting}
 use Rattle.budget.specs.Budget.{passes}
 use Rattle.answers.specs.Answers.{supplyAnswer, supplied}
-use Rattle.planner.proofs.Refusals.{inRange, supply-fits-iff}
+use Rattle.planner.proofs.Refusals.{supply-done, supply-fits}
 use Rattle.planner.proofs.LocalTest.{local-test}
+use Rattle.delivery.proofs.Given.{given-periods}
 use Rattle.first_principles.specs.FirstPrinciples.{LeastGiven, earlyThenLate, PassesDelivered, FirstPrinciples}
 use Rattle.first_principles.proofs.Windows.{supply-le-given, supply-le-delivered}
 use Rattle.first_principles.proofs.EarlyThenLate.{early-delivers, early-is-supply}
 
 supply-least : (P Q t : ℕ) → 1 ≤ Q → Q ≤ P → LeastGiven P Q t (supplyOf P Q t)
 supply-least P Q t h b = record {
-  never-fewer = supply-le-delivered P Q t h b;
+  never-fewer = λ A d s. supply-le-delivered P Q t h b A d _;
   reached = (earlyThenLate P Q, early-delivers P Q h b, Q, early-is-supply P Q t h b);
 }
 
@@ -37,12 +36,9 @@ least-settled : (P Q t x y : ℕ) → LeastGiven P Q t x → LeastGiven P Q t y 
 least-settled P Q t x y a b = omega (arith, least-le P Q t x y a b, least-le P Q t y x b a)
 
 supply-answers-the-least : (P Q t : ℕ) → supplied (supplyAnswer P Q t) .outcome ≡ Done → LeastGiven P Q t (supplied (supplyAnswer P Q t) .ticks)
-unfolding supplied supplyAnswer whenDone firstNo
-supply-answers-the-least P Q t e = go (inRange P Q t) refl e
-  where
-    go : (b : Bool) → inRange P Q t ≡ b → supplied (supplyAnswer P Q t) .outcome ≡ Done → LeastGiven P Q t (supplied (supplyAnswer P Q t) .ticks)
-    go true r e = let f = supply-fits-iff P Q t .0 r in rw r (supply-least P Q t (f .budget-some) (f .budget-most))
-    go false r e = absurd (done-not-refused (sym (rw r at e)))
+supply-answers-the-least P Q t e =
+    let f = supply-done P Q t e in
+    rw (supply-fits P Q t f) (supply-least P Q t (f .budget-some) (f .budget-most))
 
 module _ (P : ℕ) (ts : List Task) (m : ℕ) (σ : Setting) (Q : ℕ) (h : 1 ≤ Q) (b : Q ≤ P) where
   -- at the same t; and by the worst delivery
@@ -52,7 +48,7 @@ module _ (P : ℕ) (ts : List Task) (m : ℕ) (σ : Setting) (Q : ℕ) (h : 1 �
       to : passes P ts m σ Q ≡ true → PassesDelivered P ts m σ Q
       to p A d s lower task higher e =
           let w = local-test .budget P ts m σ Q .0 p lower task higher e in
-          (w .0, w .1, w .2, le-trans (w .3) (supply-le-delivered P Q (w .0) h b A d s))
+          (w .0, w .1, w .2, le-trans (w .3) (supply-le-delivered P Q (w .0) h b A d _))
 
       from : PassesDelivered P ts m σ Q → passes P ts m σ Q ≡ true
       from f =
@@ -62,11 +58,12 @@ module _ (P : ℕ) (ts : List Task) (m : ℕ) (σ : Setting) (Q : ℕ) (h : 1 �
 
 pub first-principles : FirstPrinciples
 first-principles = record {
+  exactly = given-periods;
   least = supply-least;
   one = least-settled;
   early-delivers = early-delivers;
   early-is-supply = early-is-supply;
   beyond = supply-le-given;
-  answered = supply-answers-the-least;
+  supply-answers = supply-answers-the-least;
   passing = passes-delivered;
 }

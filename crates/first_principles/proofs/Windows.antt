@@ -23,7 +23,7 @@ module _ (g q : ℕ) (A : Assignment) (d : (n : ℕ) → q ≤ given A (n * (g +
       (omega (arith, periods-least n k, d (n + k), suc-mul k q))
 
   -- the window has j whole periods, and the rest of it lies in two more
-  record Whole (s t j : ℕ) : Type 0 where
+  record WholePeriods (s t j : ℕ) : Type 0 where
     full : j * q ≤ given A s t
     rest : t ≤ given A s t + (j + 2) * g
 
@@ -34,7 +34,7 @@ module _ (g q : ℕ) (A : Assignment) (d : (n : ℕ) → q ≤ given A (n * (g +
 
   -- it starts in period n and ends in period m
   module _ (s t n m : ℕ) (a : n * (g + q) ≤ s) (b : s ≤ suc n * (g + q)) (c : m * (g + q) ≤ s + t) (e : s + t ≤ suc m * (g + q)) where
-    between : Dec (m ≤ n) → (j : ℕ) × Whole s t j
+    between : Dec (m ≤ n) → (j : ℕ) × WholePeriods s t j
     between (yes l) =
         let k : suc m * (g + q) ≤ (n + (0 + 2)) * (g + q) = mul-le-mul-right (g + q) (omega arith) in
         (0, record { full = omega arith; rest = rest-most s t n 0 a (omega arith) })
@@ -44,8 +44,8 @@ module _ (g q : ℕ) (A : Assignment) (d : (n : ℕ) → q ≤ given A (n * (g +
         let k′ : suc m ≡ n + (j + 2) = omega arith in
         (j, record { full = omega (arith, periods-least (suc n) j, given-inside A s t (suc n * (g + q)) (j * (g + q)) b (omega arith)); rest = rest-most s t n j a (rw k′ at e) })
 
-  whole : 1 ≤ q → (s t : ℕ) → (j : ℕ) × Whole s t j
-  whole h s t =
+  whole-periods : 1 ≤ q → (s t : ℕ) → (j : ℕ) × WholePeriods s t j
+  whole-periods h s t =
       between s t (s / (g + q)) ((s + t) / (g + q)) (low s) (high s) (low (s + t)) (high (s + t)) (decLe _ _)
     where
       low : (y : ℕ) → y / (g + q) * (g + q) ≤ y
@@ -58,10 +58,10 @@ module _ (g q : ℕ) (A : Assignment) (d : (n : ℕ) → q ≤ given A (n * (g +
   fewer-short : 1 ≤ q → (s t x : ℕ) → given A s t < x → t < reach (g + q) q x
   unfolding reach
   fewer-short h s t x l =
-      let w = whole h s t in
+      let w = whole-periods h s t in
       rw (add-sub-cancel g q) (go (w .0) (w .1) (decLt (w .0) (ceilDiv x q)))
     where
-      go : (j : ℕ) → Whole s t j → Dec (j < ceilDiv x q) → t < x + (ceilDiv x q + 1) * g
+      go : (j : ℕ) → WholePeriods s t j → Dec (j < ceilDiv x q) → t < x + (ceilDiv x q + 1) * g
       go j w (yes k) = omega (arith, w .rest, mul-le-mul-right g k)
       go j w (no k) =
           let k′ : ceilDiv x q ≤ j = omega arith in

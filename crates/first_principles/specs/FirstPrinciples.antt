@@ -2,7 +2,7 @@
 --   LeastGiven P Q t x == x is the least number of given ticks in any window of t ticks, under any assignment that gives exactly Q ticks in each period of P
 --   earlyThenLate P Q  == a budget delivered early in the first period, and late in every one after it
 --   PassesDelivered P ts m σ Q == a budget passes the local test however it is delivered, whatever tick the window of each task starts at
---   FirstPrinciples    == the supply is this least number, the operation `supply` answers it, and a budget passes the local test exactly if it passes so
+--   FirstPrinciples    == the supply is this least number, the operation `supply` answers it, and a budget passes the local test exactly if it passes however it is delivered
 -- Assumes nothing.
 use Prim.Native.Nat.{ℕ, _-_, _*_, _%_, _≤_}
 use mathlib.Core.Path.{_≡_}
@@ -33,6 +33,8 @@ abbrev pub PassesDelivered : ℕ → List Task → ℕ → Setting → ℕ → T
 PassesDelivered P ts m σ Q = (A : Assignment) → Delivers P Q A → (s : ℕ) → PassesBy (given A s) ts m σ
 
 pub record FirstPrinciples : Type 0 where
+  -- the assignments in question give exactly n × Q ticks in the first n periods
+  pub exactly : (P Q : ℕ) (A : Assignment) → Delivers P Q A → (n : ℕ) → given A 0 (n * P) ≡ n * Q
   -- the exact supply at t is the least number of given ticks in any window of t ticks
   pub least : (P Q t : ℕ) → 1 ≤ Q → Q ≤ P → LeastGiven P Q t (supplyOf P Q t)
   -- there is one such number
@@ -41,9 +43,9 @@ pub record FirstPrinciples : Type 0 where
   pub early-delivers : (P Q : ℕ) → 1 ≤ Q → Q ≤ P → Delivers P Q (earlyThenLate P Q)
   -- and the worst of them: once its first Q ticks are over it gives just the supply, for every t
   pub early-is-supply : (P Q t : ℕ) → 1 ≤ Q → Q ≤ P → given (earlyThenLate P Q) Q t ≡ supplyOf P Q t
-  -- ticks beyond the budget, as a part takes them to give a lock back, leave no window with fewer
+  -- ticks beyond the Q of a period, as a part takes them to give a lock back, leave no window with fewer, if no later period has fewer than Q for them (in the field: overrun without payback)
   pub beyond : (P Q t : ℕ) → 1 ≤ Q → Q ≤ P → (A : Assignment) → ((n : ℕ) → Q ≤ given A (n * P) P) → (s : ℕ) → supplyOf P Q t ≤ given A s t
   -- the operation `supply`, whatever it is asked: if it answers, then with the least number
-  pub answered : (P Q t : ℕ) → supplied (supplyAnswer P Q t) .outcome ≡ Done → LeastGiven P Q t (supplied (supplyAnswer P Q t) .ticks)
+  pub supply-answers : (P Q t : ℕ) → supplied (supplyAnswer P Q t) .outcome ≡ Done → LeastGiven P Q t (supplied (supplyAnswer P Q t) .ticks)
   -- a budget passes the local test exactly if it passes however it is delivered
   pub passing : (P : ℕ) (ts : List Task) (m : ℕ) (σ : Setting) (Q : ℕ) → 1 ≤ Q → Q ≤ P → (passes P ts m σ Q ≡ true) ↔ PassesDelivered P ts m σ Q

@@ -40,11 +40,10 @@ use Rattle.planner.proofs.Local.{candidates-kept}
 use Rattle.planner.proofs.Weighing.{weighed-outcome, weighOf-is}
 use Rattle.planner.proofs.KeptList.{kept-is, no-budget-iff, some-budget}
 use Rattle.planner.proofs.Names.{name-stretch}
-use Rattle.planner.proofs.Refusals.{number-iff, candidates-read, candidates-unread, name-read, supply-fits-iff}
+use Rattle.planner.proofs.Refusals.{number-iff, candidates-read, candidates-unread, name-read, supply-fits}
 
 supply-is : (P Q t : ℕ) → SupplyFits P Q t → (x : ℕ) × (supplied (supplyAnswer P Q t) ≡ record { outcome = Done; ticks = x }) × (signedSupply (pos P) (pos Q) (pos t) ≡ pos x)
-unfolding supplied supplyAnswer whenDone firstNo
-supply-is P Q t f = (supplyOf P Q t, rw (supply-fits-iff P Q t .1 f) refl, supply-signed P Q t (f .budget-some) (f .budget-most))
+supply-is P Q t f = (supplyOf P Q t, supply-fits P Q t f, supply-signed P Q t (f .budget-some) (f .budget-most))
 
 module _ (s : List ℕ) (k : ℕ) where
   reads : {p : FilePart} (d : PartOf s k p) → readFile s ≡ answered (d .parts)

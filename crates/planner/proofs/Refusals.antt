@@ -13,13 +13,13 @@ use Rattle.least.specs.Lists.{isEmpty, some, nthOr}
 use Rattle.least.proofs.Lists.{and-iff}
 use Rattle.refusal.specs.declared.Refusal.{Refusal}
 use Rattle.refusal.specs.declared.Refusal.the-variants.{NoBudget, BadHandSet, NoRoom}
-use Rattle.refusal.specs.declared.Outcome.the-variants.{Refused}
+use Rattle.refusal.specs.declared.Outcome.the-variants.{Done, Refused}
 use Rattle.refusal.specs.Limits.{numberLimit, rowLimit}
 use Rattle.refusal.specs.Number.{refusalNumber}
 use Rattle.refusal.specs.Questions.{Question, ask, Answer, firstNo, whenAnswered, whenDone}
 use Rattle.refusal.specs.Questions.Answer.{answered, refused}
 use Rattle.refusal.specs.FirstNo.{FirstNo}
-use Rattle.refusal.proofs.Answers.{answered-not-refused, answer-same-value, answer-same-refusal}
+use Rattle.refusal.proofs.Answers.{answered-not-refused, answer-same-value, answer-same-refusal, done-not-refused}
 use Rattle.refusal.proofs.Questions.{refused-iff, asked-iff}
 use Rattle.supply.specs.Supply.{supplyOf}
 use Rattle.load.specs.declared.Row.{Row}
@@ -33,7 +33,7 @@ use Rattle.plan_file.specs.Reading.{readFile}
 use Rattle.plan_file.proofs.Reading.{read-refused-iff, read-answered-iff}
 use Rattle.plan_file.proofs.Refusals.{read-refused-to-nine}
 use Rattle.answers.specs.Parts.{keptPairs, keptRows}
-use Rattle.answers.specs.Answers.{planRows, planText, planQuestions, planParts, planOf, isPartNumber, candidatesOf, nameOf, supplyAnswer}
+use Rattle.answers.specs.Answers.{planRows, planText, planQuestions, planParts, planOf, isPartNumber, candidatesOf, nameOf, supplyAnswer, supplied}
 use Rattle.answers.specs.Choice.{WithoutBudget}
 use Rattle.answers.proofs.PlanRows.{everyKept, keptChoices, text, refused-10, refused-11, planned-or-14, plan-parts}
 use Rattle.planning.proofs.Answering.{plan-unread}
@@ -162,7 +162,7 @@ module _ (s : List ℕ) (k : ℕ) where
 
 -- supply
 module _ (P Q t : ℕ) where
-  abbrev pub inRange : Bool
+  abbrev inRange : Bool
   inRange = (leb 1 Q && leb Q P) && (leb P numberLimit && leb t numberLimit)
 
   pub supply-fits-iff : (inRange ≡ true) ↔ SupplyFits P Q t
@@ -177,6 +177,18 @@ module _ (P Q t : ℕ) where
 
       from : SupplyFits P Q t → inRange ≡ true
       from f = simp (le-leb _ _ (f .budget-some), le-leb _ _ (f .budget-most), le-leb _ _ (f .period-most), le-leb _ _ (f .time-most))
+
+  pub supply-done : supplied (supplyAnswer P Q t) .outcome ≡ Done → SupplyFits P Q t
+  unfolding supplied supplyAnswer whenDone firstNo
+  supply-done = go inRange refl
+    where
+      go : (b : Bool) → inRange ≡ b → supplied (supplyAnswer P Q t) .outcome ≡ Done → SupplyFits P Q t
+      go true r e = supply-fits-iff .0 r
+      go false r e = absurd (done-not-refused (sym (rw r at e)))
+
+  pub supply-fits : SupplyFits P Q t → supplied (supplyAnswer P Q t) ≡ record { outcome = Done; ticks = supplyOf P Q t }
+  unfolding supplied supplyAnswer whenDone firstNo
+  supply-fits f = rw (supply-fits-iff .1 f) refl
 
   supply-12-iff : (j : ℕ) → (supplyAnswer P Q t ≡ refused (BadHandSet j)) ↔ ((j ≡ 0) × (SupplyFits P Q t → ⊥))
   unfolding supplyAnswer

@@ -1,4 +1,4 @@
--- The linear value is never above the supply, and meets it where each round's ticks begin.
+-- The linear value is never above the supply, and meets it behind two waits of P − Q ticks and any number of whole periods.
 -- Assumes nothing.
 use Prim.Native.Nat.{ℕ, suc, _+_, _-_, _*_, _/_, _≤_, _<_}
 use native.Mathlib.Nat.{le-refl, div-add-mod', lt-div-mul-add, mul-comm, mul-right-comm, mul-add, mul-le-mul-right, mul-le-mul-left, sub-add-cancel, add-mul}
@@ -6,7 +6,7 @@ use native.Mathlib.Omega.{arith}
 use native.Mathlib.Decide.{decLe}
 use mathlib.Core.Path.{_≡_, sym, ap, _∙_}
 use lib.Dec.{le→leb}
-use lib.IntN.{ℤ, pos, negℤ, _*ℤ_}
+use lib.IntN.{ℤ, pos, negℤ, _-ℤ_, _*ℤ_}
 use lib.Signed.{_≤ℤ_}
 use Rattle.least.specs.Round.{ceilDiv}
 use Rattle.least.proofs.Round.{ceil-covers, ceil-least}
@@ -16,15 +16,30 @@ use Rattle.supply.proofs.SupplyLaws.{reach, reach-needed, reach-enough}
 use Rattle.supply.proofs.SupplySigned.{pos-minus, below-minus}
 use Rattle.supply.proofs.CeilingLaws.{neg-le-pos}
 
--- behind two waits, and before
-module _ (P Q t : ℕ) (b : Q ≤ P) where
-  linear-from : 2 * (P - Q) ≤ t → linearTimesP (pos P) (pos Q) (pos t) ≡ pos (Q * (t - 2 * (P - Q)))
-  unfolding linearTimesP
-  linear-from l = rw (pos-minus P Q b) (ap (λ (z : ℤ). pos Q *ℤ z) (pos-minus t (2 * (P - Q)) l))
+-- a line that starts behind any number of waits
+module _ (P Q t w : ℕ) (b : Q ≤ P) where
+  abbrev line : ℤ
+  line = pos Q *ℤ (pos t -ℤ pos w *ℤ (pos P -ℤ pos Q))
 
-  linear-before : t < 2 * (P - Q) → linearTimesP (pos P) (pos Q) (pos t) ≡ negℤ (pos (Q * suc (2 * (P - Q) - suc t)))
-  unfolding linearTimesP
-  linear-before l = rw (pos-minus P Q b) (ap (λ (z : ℤ). pos Q *ℤ z) (below-minus t (2 * (P - Q)) l))
+  line-from : w * (P - Q) ≤ t → line ≡ pos (Q * (t - w * (P - Q)))
+  line-from l = rw (pos-minus P Q b) (ap (λ (z : ℤ). pos Q *ℤ z) (pos-minus t (w * (P - Q)) l))
+
+  line-before : t < w * (P - Q) → line ≡ negℤ (pos (Q * suc (w * (P - Q) - suc t)))
+  line-before l = rw (pos-minus P Q b) (ap (λ (z : ℤ). pos Q *ℤ z) (below-minus t (w * (P - Q)) l))
+
+  -- x ticks behind the waits
+  line-at : (x : ℕ) → w * (P - Q) + x ≡ t → line ≡ pos (Q * x)
+  line-at x e =
+      let past : t - w * (P - Q) ≡ x = omega arith in
+      line-from (omega arith) ∙ ap (λ (y : ℕ). pos (Q * y)) past
+
+  -- below a number if it is so behind the waits
+  line-le : (y : ℕ) → Q * (t - w * (P - Q)) ≤ y → line ≤ℤ pos y
+  line-le y h = go (decLe (w * (P - Q)) t)
+    where
+      go : Dec (w * (P - Q) ≤ t) → line ≤ℤ pos y
+      go (yes l) = rw (line-from l) (record { le = le→leb (Q * (t - w * (P - Q))) y h })
+      go (no l) = rw (line-before (omega arith)) (neg-le-pos (Q * suc (w * (P - Q) - suc t)) y)
 
 module _ (P Q t : ℕ) (h : 1 ≤ Q) (b : Q ≤ P) where
   -- the next tick of supply is not there yet
@@ -52,11 +67,8 @@ module _ (P Q t : ℕ) (h : 1 ≤ Q) (b : Q ≤ P) where
       omega (arith, mul-le-mul-left Q u, mul-le-mul-right (P - Q) j)
 
 linear-never-above : (P Q t : ℕ) → 1 ≤ Q → Q ≤ P → linearTimesP (pos P) (pos Q) (pos t) ≤ℤ pos (P * supplyOf P Q t)
-linear-never-above P Q t h b = go (decLe (2 * (P - Q)) t)
-  where
-    go : Dec (2 * (P - Q) ≤ t) → linearTimesP (pos P) (pos Q) (pos t) ≤ℤ pos (P * supplyOf P Q t)
-    go (yes l) = rw (linear-from P Q t b l) (record { le = le→leb (Q * (t - 2 * (P - Q))) (P * supplyOf P Q t) (linear-below P Q t h b) })
-    go (no l) = rw (linear-before P Q t b (omega arith)) (neg-le-pos (Q * suc (2 * (P - Q) - suc t)) (P * supplyOf P Q t))
+unfolding linearTimesP
+linear-never-above P Q t h b = line-le P Q t _ b (P * supplyOf P Q t) (linear-below P Q t h b)
 
 module _ (P Q k : ℕ) (h : 1 ≤ Q) (b : Q ≤ P) where
   -- after two waits and k whole periods
@@ -83,11 +95,10 @@ module _ (P Q k : ℕ) (h : 1 ≤ Q) (b : Q ≤ P) where
               let c′ : ceilDiv (suc (k * Q)) Q ≤ k = omega arith in
               omega (arith, ceil-covers (suc (k * Q)) Q h, mul-le-mul-right Q c′)
 
-  -- where the ticks of a round begin, the linear value is the supply
+  -- the linear value is the supply there
   linear-meets : linearTimesP (pos P) (pos Q) (pos (2 * (P - Q) + k * P)) ≡ pos (P * supplyOf P Q (2 * (P - Q) + k * P))
-  linear-meets =
-      let past : 2 * (P - Q) + k * P - 2 * (P - Q) ≡ k * P = omega arith in
-      linear-from P Q (2 * (P - Q) + k * P) b (omega arith) ∙ rw (supply-whole, past) (ap pos (swap Q k P))
+  unfolding linearTimesP
+  linear-meets = line-at P Q (2 * (P - Q) + k * P) _ b (k * P) (omega arith) ∙ rw supply-whole (ap pos (swap Q k P))
     where
       swap : (x y z : ℕ) → x * (y * z) ≡ z * (y * x)
       swap x y z = mul-comm x (y * z) ∙ mul-right-comm y z x ∙ mul-comm (y * x) z
