@@ -26,7 +26,6 @@ NAMED = {
         'crates/refusal/specs/Limits.antt': ['numberLimit'],
         'crates/supply/specs/Supply.antt': ['roundOf', 'supplyAt', 'supplyOf'],
         'crates/supply/specs/Signed.antt': ['SignsMakeNoDifference'],
-        'crates/planner/specs/LocalTest.antt': ['PassesBy'],
     },
 }
 # The crates with the proofs of what the pages say.
