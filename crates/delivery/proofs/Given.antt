@@ -76,3 +76,8 @@ given-periods P Q A d zero = rw (zero-mul P, zero-mul Q) (given-none A 0)
 given-periods P Q A d (suc n) =
     let e : suc n * P ≡ n * P + P = suc-mul n P in
     rw e (omega (arith, given-window A (n * P) P, d n, given-periods P Q A d n, suc-mul n Q))
+
+pub periods-delivered : (P Q : ℕ) (A : Assignment) → ((n : ℕ) → given A 0 (n * P) ≡ n * Q) → Delivers P Q A
+periods-delivered P Q A f n =
+    let e : given A 0 (n * P + P) ≡ suc n * Q = rw (suc-mul n P) at (f (suc n)) in
+    omega (arith, given-window A (n * P) P, f n, suc-mul n Q)

@@ -15,7 +15,7 @@ use Rattle.budget.specs.Budget.{passes}
 use Rattle.answers.specs.Answers.{supplyAnswer, supplied}
 use Rattle.planner.proofs.Refusals.{supply-done, supply-fits}
 use Rattle.planner.proofs.LocalTest.{local-test}
-use Rattle.delivery.proofs.Given.{given-periods}
+use Rattle.delivery.proofs.Given.{given-periods, periods-delivered}
 use Rattle.first_principles.specs.FirstPrinciples.{LeastGiven, earlyThenLate, PassesDelivered, FirstPrinciples}
 use Rattle.first_principles.proofs.Windows.{supply-le-given, supply-le-delivered}
 use Rattle.first_principles.proofs.EarlyThenLate.{early-delivers, early-is-supply}
@@ -58,7 +58,7 @@ module _ (P : ℕ) (ts : List Task) (m : ℕ) (σ : Setting) (Q : ℕ) (h : 1 �
 
 pub first-principles : FirstPrinciples
 first-principles = record {
-  exactly = given-periods;
+  exactly = λ P Q A. (given-periods P Q A, periods-delivered P Q A);
   least = supply-least;
   one = least-settled;
   early-delivers = early-delivers;

@@ -33,8 +33,8 @@ abbrev pub PassesDelivered : ℕ → List Task → ℕ → Setting → ℕ → T
 PassesDelivered P ts m σ Q = (A : Assignment) → Delivers P Q A → (s : ℕ) → PassesBy (given A s) ts m σ
 
 pub record FirstPrinciples : Type 0 where
-  -- the assignments in question give exactly n × Q ticks in the first n periods
-  pub exactly : (P Q : ℕ) (A : Assignment) → Delivers P Q A → (n : ℕ) → given A 0 (n * P) ≡ n * Q
+  -- every assignment with exactly n × Q ticks in the first n periods, for every n, and no other
+  pub exactly : (P Q : ℕ) (A : Assignment) → Delivers P Q A ↔ ((n : ℕ) → given A 0 (n * P) ≡ n * Q)
   -- the exact supply at t is the least number of given ticks in any window of t ticks
   pub least : (P Q t : ℕ) → 1 ≤ Q → Q ≤ P → LeastGiven P Q t (supplyOf P Q t)
   -- there is one such number

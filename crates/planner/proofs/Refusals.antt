@@ -165,7 +165,7 @@ module _ (P Q t : ℕ) where
   abbrev inRange : Bool
   inRange = (leb 1 Q && leb Q P) && (leb P numberLimit && leb t numberLimit)
 
-  pub supply-fits-iff : (inRange ≡ true) ↔ SupplyFits P Q t
+  supply-fits-iff : (inRange ≡ true) ↔ SupplyFits P Q t
   supply-fits-iff = (to, from)
     where
       to : inRange ≡ true → SupplyFits P Q t
