@@ -8,6 +8,7 @@ import sys
 from pathlib import Path
 
 sys.dont_write_bytecode = True
+import believed
 from interface import HEADER, RAW, check_constants, check_refusals
 from papers import check_notes, check_requests, check_trace, check_words
 from statements import check_quotes, check_statements, check_uses, source
@@ -44,9 +45,14 @@ THEOREMS = [
 ROWS = {'A': 1, 'B': 5, 'C': 2, 'D': 1, 'E': 1, 'F': 1, 'G': 1, 'H': 1, 'I': 1, 'J': 1, 'K': 5, 'L': 3}
 
 
+def listed(top):
+    """Each crate of crates.txt, with the crates that it lists."""
+    lines = [line.split('#')[0].partition(':') for line in (top / 'crates.txt').read_text().splitlines()]
+    return {name.strip(): names.split() for name, _, names in lines if name.strip()}
+
+
 def crates(top):
-    lines = [line.split('#')[0] for line in (top / 'crates.txt').read_text().splitlines()]
-    return [line.split(':')[0].strip() for line in lines if line.strip()]
+    return list(listed(top))
 
 
 # ---- contracts
@@ -146,6 +152,59 @@ def check_names(top):
             yield f'docs/TRACE.md: the crate {crate} declares no {name}'
 
 
+# ---- crates.txt
+
+# A function's signature, without its clauses.
+SIGNATURE = re.compile(r'\bfn (\w+)(.*?)(?:\brequires\b|\bensures\b|\{)', re.S)
+
+
+def named(top, name):
+    """The crates that the files of a crate name, and other words: in code what stands before `::`, elsewhere what stands behind `Rattle·`. What a wrong version puts in counts too."""
+    crate, found = top / 'crates' / name, set()
+    for path in [*crate.glob('src/**/*.rt'), *crate.glob('specs/**/*.antt'), *crate.glob('proofs/**/*.antt'), *crate.glob('must-fail/*.edit')]:
+        text = ' '.join(re.findall(r'^new: (.*)', path.read_text(), re.M)) if path.suffix == '.edit' else source(path)
+        found |= {*re.findall(r'Rattle·(\w+)', text), *(re.findall(r'(?<![\w:])(\w+)::', text) if path.suffix != '.antt' else [])}
+    return found
+
+
+def offered(top, name):
+    """Of the code of a crate: what it takes by `use`, as {name: crate}; what it declares, as {name: the types in it}, for a function those of its signature, for a type those of its
+    fields and methods; and what it asks for under another crate's name."""
+    text = '\n'.join(source(path) for path in sorted((top / 'crates' / name / 'src').glob('**/*.rt')))
+    parts = SIGNATURE.findall(text)
+    for kind in re.finditer(r'\b(struct|enum|impl) (\w+)\s*(?=\{)', text):
+        body = text[kind.end():after_brace(text, kind.end())]
+        types = {'struct': [body], 'enum': re.findall(r'\(.*?\)', body, re.S), 'impl': [types for _, types in SIGNATURE.findall(body)]}
+        parts.append((kind[2], ' '.join(types[kind[1]])))
+    declares = {}
+    for item, types in parts:
+        declares.setdefault(item, set()).update(re.findall(r'\b[A-Z]\w*', types))
+    return {item: crate for crate, item in re.findall(r'\buse (\w+)::(\w+);', text)}, declares, re.findall(r'(?<![\w:])(\w+)::(\w+)', text)
+
+
+def handed(known, name):
+    """The crates that declare the types that the code of a crate is handed: of what it asks for under another crate's name, and the types in those."""
+    todo, seen = list(known[name][2]), set()
+    while todo:
+        crate, item = todo.pop()
+        if crate in known and (crate, item) not in seen:
+            seen.add((crate, item))
+            takes, declares, _ = known[crate]
+            todo += [(takes[item], item)] if item in takes else [(takes.get(word, crate), word) for word in declares.get(item, ())]
+    return {crate for crate, item in seen if item[0].isupper() and item in known[crate][1]}
+
+
+def check_crates(top):
+    """crates.txt lists for a crate only what its files name, and what declares a type that its code is handed. What is missing there rt ci reports."""
+    lists = listed(top)
+    known = {name: offered(top, name) for name in lists}
+    for name, names in lists.items():
+        used = named(top, name) | handed(known, name)
+        for other in names:
+            if other not in used:
+                yield f'crates.txt: {name} lists {other} and does not use it'
+
+
 # ---- must-fail edits
 
 # How an edit's comment ends, behind a colon or a full stop: "`a` and law `b` must break.", "`a`, so `b`, must break." A function's need, as its proof file names it, is `a/returns`.
@@ -243,26 +302,30 @@ def check_one_pass(top):
             yield f'scan: the place in the line moves by `{change}`'
 
 
-# ---- one limit of numbers
+# ---- each limit once
 
+# The limits, each with another number that is made of it: the number above it, or the places for all parts.
+LIMITS = {'numbers': (1_000_000, 1_000_001), 'bytes in a file': (32_768, 32_769), 'kept pairs': (121, 1936)}
 # A number as it is written down, with or without its type; and the limit as a power or a product.
 WRITTEN = re.compile(r'(?<![\w.])(0x[0-9a-fA-F_]+|[0-9][0-9_]*?)(?:_?[ui](?:8|16|32|64|size))?(?!\w)')
 MADE = re.compile(r'\b10 ?\^ ?6\b|\b1_?000 ?\* ?1_?000\b')
 
 
-def limits(text):
-    """How often the limit of numbers, or the number above it, is written down in a text."""
-    values = (int(number, 16 if number.startswith('0x') else 10) for number in WRITTEN.findall(text))
-    return sum(value in (1_000_000, 1_000_001) for value in values) + len(MADE.findall(text))
+def written(text):
+    """The numbers that are written down in a text; a power or a product is a million."""
+    return [int(number, 16 if number.startswith('0x') else 10) for number in WRITTEN.findall(text)] + [1_000_000] * len(MADE.findall(text))
 
 
 def check_one_limit(top):
-    """The limit of numbers (M103b) is written down once in the definitions, for everything that is asked, and once in the code; the programs that are tests, and the table of examples, have their own."""
-    for what, kind, tests in (('the definitions', 'specs/**/*.antt', {'examples'}), ('the code', 'src/**/*.rt', {'by_hand'})):
+    """Each of LIMITS, that of numbers (M103b) among them, is written down once in the definitions, for everything that is asked, and once in the code; the programs that are tests, and the table of
+    examples, have their own."""
+    for what, kind, tests in (('the definitions', 'specs/**/*.antt', {'examples'}), ('the code', 'src/**/*.rt', {'by_hand', 'scanned'})):
         places = [path for name in crates(top) if name not in tests for path in sorted((top / 'crates' / name).glob(kind))]
-        found = [str(path.relative_to(top)) for path in places for _ in range(limits(source(path)))]
-        if len(found) != 1 or not found[0].startswith('crates/refusal/'):
-            yield f'the limit of numbers stands {len(found)} times in {what}, and must stand once, in refusal: ' + ', '.join(found)
+        numbers = [(str(path.relative_to(top)), number) for path in places for number in written(source(path))]
+        for limit, values in LIMITS.items():
+            found = [path for path, number in numbers if number in values]
+            if len(found) != 1 or not found[0].startswith('crates/refusal/'):
+                yield f'the limit of {limit} stands {len(found)} times in {what}, and must stand once, in refusal: ' + ', '.join(found)
     if not re.search(r'^enum {.*\bPLANNER_MOST_NUMBER = 1000000\b', source(top / HEADER), re.M):
         yield f'{HEADER}: PLANNER_MOST_NUMBER is not the limit of numbers'
 
@@ -278,6 +341,23 @@ def check_theorems(top):
         for word in says.split():
             if any(word in declarations(text) for text in texts):
                 yield f'{crate}: {word}, of which the theorem {name} speaks, is declared in a proof'
+
+
+def promises(top):
+    """What callers and readers are promised: (who says it, the file, the words) of each operation's contract and each promised theorem."""
+    for name in sorted(OPERATIONS):
+        crate, fn = name.split('::')
+        for path in sorted((top / 'crates' / crate / 'src').glob('**/*.rt')):
+            yield from ((name, path, words) for found, clauses in signatures(source(path)) if found == fn for _, words in clauses)
+    for crate, name, says in THEOREMS:
+        for path in sorted((top / 'crates' / crate / 'proofs').glob('**/*.antt')):
+            if re.search(rf'^pub {re.escape(name)} :', source(path), re.M):
+                yield name, path, says
+
+
+def check_believed(top):
+    """What must be believed is all of specs/ but specs/Code/, and README.md says how much that is."""
+    yield from believed.wrong(top, promises(top))
 
 
 def check_table(top):
@@ -334,8 +414,8 @@ def check_tests(top):
 
 
 CHECKS = [
-    check_contracts, check_names, check_words, check_trace, check_requests, check_notes, check_statements, check_uses, check_quotes,
-    check_edits, check_shut_outs, check_one_pass, check_one_limit, check_theorems, check_table, check_example_a, check_poster, check_verdicts, check_tests,
+    check_contracts, check_names, check_crates, check_words, check_trace, check_requests, check_notes, check_statements, check_uses, check_quotes,
+    check_edits, check_shut_outs, check_one_pass, check_one_limit, check_theorems, check_believed, check_table, check_example_a, check_poster, check_verdicts, check_tests,
     check_refusals, check_constants,
 ]
 

@@ -10,6 +10,7 @@ from contextlib import contextmanager
 from pathlib import Path
 
 sys.dont_write_bytecode = True
+import believed
 import check
 import interface
 import papers
@@ -115,6 +116,40 @@ LIMIT, LIMIT_CODE = 'crates/refusal/specs/Limits.antt', 'crates/refusal/src/lib.
 SCANNED = """abbrev pub EveryLineScanned : Type 0
 EveryLineScanned = (s : List ℕ) → ScanIs s
 """
+# A page that must be believed, each definition for another reason, and one that need not be.
+LOAD, ROWS, LOAD_CODE = 'crates/load/specs/Load.antt', 'crates/load/specs/Code/Rows.antt', 'crates/load/src/lib.rt'
+LOAD_PAGE = """-- noRow is only named here.
+use Rattle.refusal.specs.Limits.{numberLimit as most}
+
+infix 50 _⊑_
+pub record _⊑_ (a b : ℕ) : Type 0 where
+  pub cross : first (min a most) ≡ b
+
+abbrev pub Kind : Type 1
+Kind = Type 0
+
+module _ {A : Kind} where
+  abbrev pub first : A → A
+  first a = a
+
+pub data Load : Type 0 where
+  none : Load
+  some : ℕ → Load
+
+abbrev pub loadOf : Load → ℕ
+loadOf none = 0
+loadOf (some n) = n
+"""
+ROWS_PAGE = """use Rattle.load.specs.Load.Load.{none}
+
+unfoldable pub noRow : ℕ
+noRow = loadOf none
+
+pub data Row : Type 0 where
+  rowAt : ℕ → Row
+"""
+# Names every definition outside the promises and Code/, but the pages above.
+NAMED = 'crates/examples/specs/Named.antt'
 HEADER = """/* "no 15", PLANNER_MOST = 7 */
 #define PLANNER_VERSION_MAJOR 1
 #define PLANNER_VERSION_MINOR 2
@@ -134,6 +169,10 @@ pub const ROOM: usize = 8192;
 pub const STACK_PLAN: usize = 184 * 1024;
 const TEXTS: [&str; 15] = [
     """
+# What a crate of the tree names; what `plan` is handed, too.
+LISTS = {
+    'answers': 'least', 'records': 'scan', 'planner': 'least refusal load answers inquiries hand_set planning', 'examples': 'planner', 'plan': 'least answers planner', 'console': 'libc',
+}
 VERDICT = 'logic=proved functions=2 sum=0 native=nat,char,string logic-built=trusted libraries-built=trusted\n'
 
 
@@ -161,18 +200,23 @@ def right_tree():
         'target/must-fail/least/down/.log': log('least/down', DOWN_LOG),
         'crates/least/must-fail/step.edit': edit('`Frac::next/returns` and `inner`, so `ceil_div`,'),
         'target/must-fail/least/step/.log': log('least/step', STEP_LOG),
-        'crates/planner/src/lib.rt': 'pub use least::Frac;\n',
+        'crates/planner/src/lib.rt': 'pub use answers::Supplied;\npub use least::Frac;\n',
         'crates/examples/src/lib.rt': '// Nothing.\n',
         'crates/examples/specs/Files.antt': 'fileA = bytes "part\\tcard\\t20\\nend\\n"\nlistingA = bytes "load\\tcard\\n"\n',
         'crates/examples/specs/Table.antt': 'abbrev pub table : List Example\ntable =\n    ' + '    ∷ '.join(rows) + '    ∷ []\n\ninfixr 60 _and_\n',
-        'crates/plan/src/main.rt': 'fn main() {\n}\n',
+        'crates/answers/src/lib.rt': 'use least::Frac;\n\npub struct Supplied {\n    pub ticks: Frac,\n}\n',
+        'crates/plan/src/main.rt': 'use planner::Supplied;\n\nfn main() {\n    planner::plan(1);\n}\n',
         'README.md': 'A file:\n\npart\tcard\t20\nend\n\nits plan:\n\nload\tcard\n\n' + ''.join(f'| {number} | 0 | no {number} | write it |\n' for number in range(1, 15)),
         DEMAND_1: DEMAND,
         SCAN: SCANNED,
         SCAN_CODE: 'let mut i = at;\nwhile i < s.len() {\n    let b = s[i];\n    if b == 10 {\n        return Scanned { good: true, end: i };\n    }\n    i += 1;\n}\n',
         CURSOR: 'let l = scan::line_at(s, at);\n',
-        LIMIT: 'abbrev pub numberLimit : ℕ\nnumberLimit = 1000000\n',
-        LIMIT_CODE: 'pub const NUMBER_LIMIT: u64 = 1000000;\n',
+        LOAD: LOAD_PAGE,
+        LOAD_CODE: 'ghost use Rattle.load.specs.Load.{_⊑_};\n',
+        ROWS: ROWS_PAGE,
+        'crates/examples/specs/Code/Spare.antt': 'abbrev pub spare : ℕ\nspare = 0\n',
+        LIMIT: 'abbrev pub numberLimit : ℕ\nnumberLimit = 1000000\nfileLimit = 32768\nabbrev pub keptLimit : ℕ\nkeptLimit = 121\n',
+        LIMIT_CODE: 'pub const NUMBER_LIMIT: u64 = 1000000;\npub const FILE_LIMIT: usize = 32768;\npub const KEPT_LIMIT: usize = 121;\n',
         'crates/answers/specs/Answers.antt': HANDED,
         'crates/answers/specs/Choice.antt': 'pub record Choice : Type 0 where\n  pub rows : List Row\n',
         'crates/examples/specs/WrongPlanners.antt': 'use Rattle.planner.specs.Demand1.{Demand1, Demand3}\nabbrev pub ShutOut : Type 0\nShutOut = Demand3 → ⊥\n',
@@ -207,7 +251,8 @@ def right_tree():
         crate, fn = name.split('::')
         path = f'crates/{crate}/src/lib.rt'
         head = '#[no_mangle]\npub extern "C" fn' if crate == 'planner_c' else 'pub fn'
-        files[path] = files.get(path, '') + f'{head} {fn}(a: u64) -> u64\n    ensures {{ λ r. ⌜ r ≡ a ⌝ }}\n{{\n    a\n}}\n'
+        says = 'r ⊑ a' if name == 'load::weigh' else 'r ≡ a'
+        files[path] = files.get(path, '') + f'{head} {fn}(a: u64) -> u64\n    ensures {{ λ r. ⌜ {says} ⌝ }}\n{{\n    a\n}}\n'
         for label in (f'{fn}_low', f'{fn}_high'):
             files[f'crates/{crate}/must-fail/{label}.edit'] = edit(f'`{fn}`')
             files[f'target/must-fail/{crate}/{label}/.log'] = log(f'{crate}/{label}', f'@proofs/{fn}/Proof.antt:1:2: error: `returns`: the two types differ\n')
@@ -217,8 +262,14 @@ def right_tree():
             files['tests/src/library.rs'] += f'    raw::{fn}(file);\n'
         elif crate != 'console':
             files['crates/planner/src/lib.rt'] += f'pub use {name};\n'
+    files['crates/console/must-fail/print_low.edit'] = edit('`print`').replace('new: b', 'new: libc::b')
+    others = [path for path in files if '/specs/' in path and path not in (LOAD, ROWS) and path.split('/')[1] not in believed.PROMISING]
+    named = [(path, one.name) for path in others for one in believed.definitions(path, files[path])]
+    files[NAMED] = 'use Rattle.load.specs.Load.{loadOf}\nuse Rattle.load.specs.Load.Load.{some as few}\n' + ''.join(
+        f'use Rattle.{path.split("/")[1]}.specs.{Path(path).stem}.{{{name} as name{at}}}\n' for at, (path, name) in enumerate(named))
+    files[NAMED] += '\nabbrev pub every : Type 0\nevery = few loadOf' + ''.join(f' name{at}' for at in range(len(named))) + '\n'
     names = sorted({path.split('/')[1] for path in files if path.startswith('crates/')})
-    files['crates.txt'] = '# all\n' + ''.join(f'{name}: least\n' for name in names)
+    files['crates.txt'] = '# all\n' + ''.join(f'{name}: {LISTS.get(name, "")}\n' for name in names)
     for name in names:
         files[f'target/log/{name}.out'] = 'library std\n' + (VERDICT if name != 'plan' else VERDICT.replace('sum', 'axioms=9 sum'))
     return files
@@ -259,6 +310,20 @@ SLIPS = [
     (check.check_names, 'the crate least declares no must-fail/down', 'crates/least/must-fail/down.edit', None, None),
     (check.check_names, 'no file docs/PAPER-03.md', 'docs/TRACE.md', 'PAPER-01', 'PAPER-03'),
     (check.check_names, 'neither a file nor', 'docs/TRACE.md', '`planning plan`', '`nowhere plan`'),
+    (check.check_crates, 'crates.txt: load lists least and does not use it', 'crates.txt', 'load: \n', 'load: least\n'),
+    (check.check_crates, 'crates.txt: records lists io and does not use it', 'crates.txt', 'records: scan\n', 'records: scan io\n'),
+    (check.check_crates, 'crates.txt: plan lists inquiries and does not use it', 'crates.txt', 'answers planner\n', 'answers inquiries planner\n'),
+    (check.check_crates, 'crates.txt: records lists scan and does not use it', CURSOR, 'scan::line_at', 'line_at'),
+    (check.check_crates, 'crates.txt: records lists scan and does not use it', CURSOR, 'let l', '// let l'),
+    (check.check_crates, 'crates.txt: records lists scan and does not use it', CURSOR, 'scan::line_at', 'Cursor::scan::line_at'),
+    (check.check_crates, 'crates.txt: examples lists planner and does not use it', 'crates/examples/specs/WrongPlanners.antt', 'use Rattle.planner.', 'use Rattle.planner_c.'),
+    (check.check_crates, 'crates.txt: examples lists planner and does not use it', 'crates/examples/specs/WrongPlanners.antt', 'use Rattle.planner.', '-- use Rattle.planner.'),
+    (check.check_crates, 'crates.txt: console lists libc and does not use it', 'crates/console/must-fail/print_low.edit', 'new: libc::b', 'old: libc::b'),
+    (check.check_crates, 'crates.txt: plan lists least and does not use it', 'crates/answers/src/lib.rt', 'ticks: Frac', 'ticks: u64'),
+    (check.check_crates, 'crates.txt: plan lists least and does not use it', 'crates/answers/src/lib.rt', 'pub struct Supplied {\n    pub ticks: Frac,', 'pub enum Supplied {\n    Frac(u64),'),
+    (check.check_crates, 'crates.txt: plan lists planning and does not use it', 'crates.txt', 'least answers planner\n', 'least answers planning planner\n'),
+    (check.check_crates, 'crates.txt: plan lists least and does not use it', 'crates/plan/src/main.rt', 'planner::Supplied', 'planner::plan'),
+    (check.check_crates, 'crates.txt: plan lists answers and does not use it', 'crates/planner/src/lib.rt', 'pub use answers::Supplied;\n', ''),
     (check.check_trace, 'sentence F12 has no entry', 'docs/TRACE.md', '| F12 |', '| F13 |'),
     (check.check_trace, 'the entry F13 is of no sentence', 'docs/TRACE.md', '| F12 |', '| F13 |'),
     (check.check_trace, 'the entry of sentence I1 names nothing', 'docs/TRACE.md', '`least ceilDiv` | – | `least must-fail/down`', '– | – | –'),
@@ -394,12 +459,42 @@ SLIPS = [
     (check.check_one_limit, 'the limit of numbers stands 2 times in the definitions', 'crates/least/specs/Round.antt', '', 'most : ℕ\nmost = 1000000\n'),
     (check.check_one_limit, 'the limit of numbers stands 0 times in the definitions', LIMIT, '1000000', '65535'),
     (check.check_one_limit, 'the limit of numbers stands 2 times in the code', 'crates/least/src/lib.rt', '', 'const UNKNOWN: u64 = 1_000_001;\n'),
-    (check.check_one_limit, 'the limit of numbers stands 0 times in the code', LIMIT_CODE, 'pub const', '// pub const'),
+    (check.check_one_limit, 'the limit of numbers stands 0 times in the code', LIMIT_CODE, 'pub const N', '// pub const N'),
     *((check.check_one_limit, 'the limit of numbers stands 2 times in the code', 'crates/least/src/lib.rt', '', f'    if {most} < t {{\n') for most in ['1000000u64', '1_000_000_u64', '0xF4240', '1000 * 1000']),
     (check.check_one_limit, 'the limit of numbers stands 2 times in the definitions', 'crates/least/specs/Round.antt', '', 'most = 10 ^ 6\n'),
-    (check.check_one_limit, 'the limit of numbers stands 0 times in the code', 'crates.txt', 'refusal: least\n', ''),
+    (check.check_one_limit, 'the limit of numbers stands 0 times in the code', 'crates.txt', 'refusal: \n', ''),
+    (check.check_one_limit, 'the limit of kept pairs stands 2 times in the definitions', 'crates/least/specs/Round.antt', '', 'few : n ≤ 121\n'),
+    (check.check_one_limit, 'the limit of kept pairs stands 2 times in the code', 'crates/least/src/lib.rt', '', '    let places = [0u64; 1936];\n'),
+    (check.check_one_limit, 'the limit of kept pairs stands 0 times in the code', LIMIT_CODE, '121', '16'),
+    (check.check_one_limit, 'the limit of bytes in a file stands 2 times in the code', 'crates/plan/src/main.rt', '', '    let mut file = [0u8; 32769];\n'),
+    (check.check_one_limit, 'the limit of bytes in a file stands 0 times in the definitions', LIMIT, '32768', '65536'),
     (check.check_one_limit, 'PLANNER_MOST_NUMBER is not the limit', interface.HEADER, '1000000', '65535'),
     (check.check_one_limit, 'PLANNER_MOST_NUMBER is not the limit', interface.HEADER, 'enum { P', '// enum { P'),
+    *((check.check_believed, f'{ROWS}: {name} stands in Code/, and must be believed: {who} names it', path, old, new) for name, who, path, old, new in [
+        ('noRow', 'load::weigh', LOAD_CODE, 'Load.{_⊑_}', 'Code.Rows.{noRow as _⊑_}'),
+        ('noRow', 'every-line-scanned', 'crates/scan/proofs/Theorems.antt', '', 'use Rattle.load.specs.Code.Rows.{noRow as lineAt}\n'),
+        ('noRow', f'loadOf of {LOAD}', LOAD, 'loadOf none = 0\n', 'loadOf none = noRow\nuse Rattle.load.specs.Code.Rows.{noRow}\n'),
+        ('noRow', f'_⊑_ of {LOAD}', LOAD, 'refusal.specs.Limits.{numberLimit as', 'load·specs.specs.Code.Rows.{noRow as'),
+        ('Row', f'every of {NAMED}', NAMED, 'Load.Load.{some as', 'Code.Rows.Row.{rowAt as'),
+    ]),
+    *((check.check_believed, f'{path}: {name} does not stand in Code/, and need not be believed', path, old, new) for name, path, old, new in [
+        ('spare', LOAD, '', '\nabbrev pub spare : ℕ\nspare = 0\n'), ('Spare', LOAD, '', '\npub record Spare : Type 0 where\n  pub some : ℕ\n'),
+        ('spare', LOAD, '', '\nspare : ℕ\nspare = spare\n'), ('spare', 'crates/load/specs/Spare.antt', '', 'abbrev pub spare : ℕ\nspare = 0\n'),
+        ('spare', LOAD, '  first a = a\n', '  first a = a\n\n  abbrev pub spare : A → A\n  spare a = a\n'),
+        ('first', LOAD, 'first (min a most)', '{- first -} (min a most) -- first'),
+    ]),
+    (check.check_believed, f'{LOAD}: _⊑_ does not stand in Code/', LOAD_CODE, 'r ⊑ a', 'r ≡ a'),
+    (check.check_believed, f'{LOAD}: loadOf does not stand in Code/', NAMED, 'few loadOf', 'few'),
+    (check.check_believed, f'{LOAD}: Load does not stand in Code/', NAMED, 'few loadOf', ''),
+    (check.check_believed, f'{LOAD}: Rattle.refusal.specs.Limits declares no lowLimit', LOAD, '{numberLimit as', '{lowLimit as'),
+    (check.check_believed, f'{ROWS}: Rattle.load.specs.Load.Load declares no few', ROWS, '{none}', '{few}'),
+    (check.check_believed, f'{LOAD}: numberLimit is taken from a proof', LOAD, 'refusal.specs.Limits', 'refusal.proofs.Limits'),
+    (check.check_believed, f'{LOAD}: Rattle.load.specs.Code.Rows.noRow stands with its whole path', LOAD, 'none = 0', 'none = Rattle.load.specs.Code.Rows.noRow'),
+    (check.check_believed, f'{LOAD}: `use Rattle.load.specs.Code.Rows as rows` cannot be read', LOAD, '', 'use Rattle.load.specs.Code.Rows as rows\n'),
+    (check.check_believed, f'{LOAD_CODE}: `ghost use Rattle.load.specs.Code.Rows;` cannot be read', LOAD_CODE, '', 'ghost use Rattle.load.specs.Code.Rows;\n'),
+    *((check.check_believed, 'README.md: it must say once that ', 'README.md', old, new) for old, new in [
+        (' definitions must be believed', '0 definitions must be believed'), (' of the\n', '0 of the\n'), (' must be believed', ' may be believed'), ('', '1 of the 2 definitions must be believed.\n'),
+    ]),
     (check.check_verdicts, 'planning: no verdict', 'target/log/planning.out', None, None),
     (check.check_verdicts, 'planning: no verdict', 'target/log/planning.out', 'logic=proved', 'logic=not-proved'),
     (check.check_verdicts, 'planning: the verdict names an assumption, axioms', 'target/log/planning.out', 'sum=0', 'axioms=1 sum=0'),
@@ -437,11 +532,13 @@ class Checks(unittest.TestCase):
         folder = tempfile.TemporaryDirectory()
         cls.addClassCleanup(folder.cleanup)
         cls.top = Path(folder.name)
-        scripts = {f'.ci/{name}': (HERE / name).read_text() for name in ('check.py', 'interface.py', 'papers.py', 'statements.py')}
+        scripts = {f'.ci/{name}': (HERE / name).read_text() for name in ('believed.py', 'check.py', 'interface.py', 'papers.py', 'statements.py')}
         for path, text in {**right_tree(), **scripts}.items():
             (cls.top / path).parent.mkdir(parents=True, exist_ok=True)
             (cls.top / path).write_text(text)
         (cls.top / papers.WORDS).write_text(''.join(f'{line}\n' for line in papers.digests(cls.top)))
+        count = len(believed.Pages(cls.top).all)
+        (cls.top / 'README.md').write_text((cls.top / 'README.md').read_text() + f'{count - 3} of the\n{count} definitions must be believed.\n')
 
     @contextmanager
     def slip(self, path, old, new):

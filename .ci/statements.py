@@ -18,7 +18,12 @@ PAGES = {
 NAMED = {
     DEMANDS: {
         'crates/answers/specs/Answers.antt': ['planned', 'bufferAfter', 'HandedOver', 'PlanAnswered'],
+        'crates/answers/specs/Plan.antt': ['partitions'],
         'crates/load/specs/Weigh.antt': ['RowFits'],
+        'crates/plan_file/specs/Numbers.antt': ['PlanPart', 'partsOf', 'partAt'],
+        'crates/refusal/specs/Limits.antt': ['keptLimit'],
+        'crates/refusal/specs/Number.antt': ['isOfTheFile'],
+        'crates/task_set/specs/Partition.antt': ['Partition'],
         'crates/supply/specs/Signed.antt': ['larger', 'ceilOf', 'signedRound', 'signedAt', 'signedSupply'],
     },
     REQUESTS: {

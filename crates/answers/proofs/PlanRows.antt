@@ -1,8 +1,7 @@
 -- The rows of a plan: built from kept pairs, of least load, and in these with the greatest holding times; and the questions 10, 11 and 14 in their order.
---   everyKept ps   == the answer to question 10: every part has a kept row
---   keptChoices ps == the choices built from kept pairs
---   leastRows ps   == the rows of the plan: the first of least load among them
---   text ps        == its listing
+--   everyKept vs   == the answer to question 10: every part has a kept row
+--   keptChoices vs == the choices built from kept pairs
+--   text ps        == the listing of the parts with the rows of least load
 -- Assumes nothing.
 use Prim.Native.Nat.{ℕ, zero, suc, _≤_}
 use native.Mathlib.Omega.{arith}
@@ -11,7 +10,7 @@ use mathlib.Core.Bool.{Bool, true, false, not, cond, false≢true}
 use mathlib.Core.List.{List, map, Memᴰ·map}
 use lib.Dec.{leb}
 use borrow.Author.Tests.{not-true, not-false}
-use lib.ListN.{length}
+use lib.ListN.{length, length-map}
 use Rattle.least.specs.declared.Frac.{Frac}
 use Rattle.least.specs.Lists.{isEmpty, every, some, firstOf, nthOr}
 use Rattle.least.specs.Each.{Each}
@@ -22,107 +21,149 @@ use Rattle.least.proofs.Zip.{zip3-second, zip3-third}
 use Rattle.least.proofs.Fraction.{⊑-trans}
 use Rattle.refusal.specs.declared.Outcome.the-variants.{Done, Refused}
 use Rattle.refusal.specs.declared.Refusal.the-variants.{NoBudget, NoChoice, NoRoom}
-use Rattle.refusal.specs.Questions.{firstNo, whenAnswered, whenDone}
+use Rattle.refusal.specs.Questions.{Answer, firstNo, whenAnswered, whenDone}
 use Rattle.refusal.specs.Questions.Answer.{answered, refused}
+use Rattle.refusal.proofs.Answers.{answered-not-refused, answer-same-value}
+use Rattle.task_set.specs.Partition.{Partition}
 use Rattle.load.specs.declared.Row.{Row}
 use Rattle.load.specs.Load.{loadOf, passesSystem}
 use Rattle.load.proofs.Load.{loadOf-ok}
-use Rattle.selection.specs.Selection.{choices, leastLoaded}
+use Rattle.selection.specs.Selection.{choices}
 use Rattle.selection.specs.Questions.{choiceQuestions}
 use Rattle.selection.proofs.Selection.{leastLoaded-member, leastLoaded-least, some-passes}
 use Rattle.selection.proofs.Greatest.{member-some, leastLoaded-greatest}
-use Rattle.plan_file.specs.Above.{FilePart, noPart}
-use Rattle.plan_file.specs.Reading.{readFile}
+use Rattle.plan_file.specs.Above.{noPart}
+use Rattle.plan_file.specs.Numbers.{PlanPart, planPart, partsOf, partAt}
+use Rattle.listing.specs.Listing.{shareUnder}
 use Rattle.answers.specs.Parts.{keptRows, shareOf, sharesOf}
-use Rattle.answers.specs.Answers.{planRows, planText, planQuestions, planParts, planOf}
-use Rattle.answers.specs.Choice.{Chosen, PassingChoice, FromKept}
+use Rattle.answers.specs.Plan.{Plan, partitions, offered, leastRows, chosenRows, chosenPlan, planFile, planText}
+use Rattle.answers.specs.Answers.{listedIn, planOf}
+use Rattle.answers.specs.Choice.{Chosen, FromKept, PassingChoice, BuiltFromKept}
 use Rattle.answers.proofs.KeptRows.{none-kept, some-kept, keptRows-sorted, choices-kept, passing-under}
 
-pub shares-rows : {ps : List FilePart} {rs : List Row} (bs : List Frac) → Each FromKept ps rs → length bs ≡ length rs → map (λ s. s .row) (sharesOf ps rs bs) ≡ rs
-unfolding shareOf
-shares-rows {ps} {rs} bs each e = zip3-second shareOf (λ s. s .row) (λ p r b. refl) ps rs bs (length-equal each) e
+pub shares-rows : (ps : List PlanPart) {rs : List Row} (bs : List Frac) → BuiltFromKept ps rs → length bs ≡ length rs → map (λ s. s .row) (sharesOf ps rs bs) ≡ rs
+unfolding shareUnder
+shares-rows ps {rs} bs each e = zip3-second shareOf (λ s. s .row) (λ p r b. refl) ps rs bs (sym (length-map ps (λ p. p .numbers)) ∙ length-equal each) e
 
-pub shares-bounds : {ps : List FilePart} {rs : List Row} (bs : List Frac) → Each FromKept ps rs → length bs ≡ length rs → map (λ s. s .bound) (sharesOf ps rs bs) ≡ bs
-unfolding shareOf
-shares-bounds {ps} {rs} bs each e = zip3-third shareOf (λ s. s .bound) (λ p r b. refl) ps rs bs (length-equal each) e
+pub shares-bounds : (ps : List PlanPart) {rs : List Row} (bs : List Frac) → BuiltFromKept ps rs → length bs ≡ length rs → map (λ s. s .bound) (sharesOf ps rs bs) ≡ bs
+unfolding shareUnder
+shares-bounds ps {rs} bs each e = zip3-third shareOf (λ s. s .bound) (λ p r b. refl) ps rs bs (sym (length-map ps (λ p. p .numbers)) ∙ length-equal each) e
 
-module _ (ps : List FilePart) where
-  abbrev pub everyKept : Bool
-  everyKept = every (λ rows. not (isEmpty rows)) (map keptRows ps)
+abbrev pub everyKept : List Partition → Bool
+everyKept vs = every (λ rows. not (isEmpty rows)) (offered vs)
 
-  abbrev pub keptChoices : List (List Row)
-  keptChoices = choices (map keptRows ps)
+abbrev pub keptChoices : List Partition → List (List Row)
+keptChoices vs = choices (offered vs)
 
-  abbrev pub leastRows : List Row
-  leastRows = leastLoaded keptChoices
+-- the rows of the plan
+module _ (vs : List Partition) (e : some passesSystem (keptChoices vs) ≡ true) where
+  some-choice : 1 ≤ length (keptChoices vs)
+  some-choice = member-some (some-iff passesSystem (keptChoices vs) .0 e .1)
+
+  pub leastRows-kept : Each FromKept vs (leastRows vs)
+  leastRows-kept = choices-kept vs (leastRows vs) .0 (leastLoaded-member (keptChoices vs) some-choice)
+
+  pub leastRows-passes : passesSystem (leastRows vs) ≡ true
+  leastRows-passes = some-passes (keptChoices vs) some-choice .0 e
+
+module _ (ps : List PlanPart) where
+  abbrev vs : List Partition
+  vs = partitions ps
 
   abbrev pub text : List ℕ
-  text = planText ps (planRows (map keptRows ps))
+  text = planText (record { parts = ps; rows = leastRows vs })
 
   -- question 10
-  pub empty-at : (i : ℕ) → isEmpty (nthOr (keptRows noPart) i (map keptRows ps)) ≡ isEmpty (keptRows (nthOr noPart i ps))
-  empty-at i = ap isEmpty (nth-of-map keptRows noPart i ps)
+  pub empty-at : (i : ℕ) → isEmpty (nthOr (keptRows (planPart noPart .numbers)) i (offered vs)) ≡ isEmpty (keptRows (partAt ps i .numbers))
+  empty-at i = ap isEmpty (nth-of-map keptRows (planPart noPart .numbers) i vs ∙ ap keptRows (nth-of-map (λ (p : PlanPart). p .numbers) (planPart noPart) i ps))
 
-  pub each-chosen : everyKept ≡ true → (i : ℕ) → 1 ≤ i → i ≤ length ps → (r : Row) × Chosen (nthOr noPart i ps) r
+  pub each-chosen : everyKept vs ≡ true → (i : ℕ) → 1 ≤ i → i ≤ length ps → (r : Row) × Chosen (partAt ps i .numbers) r
   each-chosen e i a b =
-      some-kept (nthOr noPart i ps) (not-true _ (every-member _ (map keptRows ps) e (Memᴰ·map keptRows (nth-member noPart i ps a b))))
+      some-kept (partAt ps i .numbers) (not-true _ (every-member _ (offered vs) e (Memᴰ·map keptRows (Memᴰ·map (λ (p : PlanPart). p .numbers) (nth-member (planPart noPart) i ps a b)))))
 
-  pub first-empty : everyKept ≡ false → FirstAt isEmpty (map keptRows ps) (firstOf isEmpty (map keptRows ps))
-  first-empty e = first-at isEmpty (map keptRows ps) (go (firstOf isEmpty (map keptRows ps)) refl)
+  pub first-empty : everyKept vs ≡ false → FirstAt isEmpty (offered vs) (firstOf isEmpty (offered vs))
+  first-empty e = first-at isEmpty (offered vs) (go (firstOf isEmpty (offered vs)) refl)
     where
-      go : (j : ℕ) → firstOf isEmpty (map keptRows ps) ≡ j → 1 ≤ j
+      go : (j : ℕ) → firstOf isEmpty (offered vs) ≡ j → 1 ≤ j
       go zero z =
-          let h = every-not (λ rows. not (isEmpty rows)) (map keptRows ps) e in
-          absurd (false≢true (sym (first-none isEmpty (map keptRows ps) .0 z (h .0) (h .1)) ∙ not-false _ (h .2)))
+          let h = every-not (λ rows. not (isEmpty rows)) (offered vs) e in
+          absurd (false≢true (sym (first-none isEmpty (offered vs) .0 z (h .0) (h .1)) ∙ not-false _ (h .2)))
       go (suc j) z = omega arith
 
-  pub none-chosen : (j : ℕ) → FirstAt isEmpty (map keptRows ps) j → (r : Row) → Chosen (nthOr noPart j ps) r → ⊥
-  none-chosen j f = none-kept (nthOr noPart j ps) (sym (empty-at j) ∙ f .passes (keptRows noPart))
+  pub none-chosen : (j : ℕ) → FirstAt isEmpty (offered vs) j → (r : Row) → Chosen (partAt ps j .numbers) r → ⊥
+  none-chosen j f = none-kept (partAt ps j .numbers) (sym (empty-at j) ∙ f .passes (keptRows (planPart noPart .numbers)))
 
   -- question 11
-  pub no-passing-choice : some passesSystem keptChoices ≡ false → (rs : List Row) → PassingChoice ps rs → ⊥
+  pub no-passing-choice : some passesSystem (keptChoices vs) ≡ false → (rs : List Row) → PassingChoice ps rs → ⊥
   no-passing-choice e rs c =
       let k = passing-under ps rs c in
-      false≢true (sym (some-none passesSystem keptChoices .0 e (k .rows) (k .kept)) ∙ k .system)
+      false≢true (sym (some-none passesSystem (keptChoices vs) .0 e (k .rows) (k .kept)) ∙ k .system)
 
-  -- the plan
-  module _ (e : some passesSystem keptChoices ≡ true) where
-    some-choice : 1 ≤ length keptChoices
-    some-choice = member-some (some-iff passesSystem keptChoices .0 e .1)
+  pub leastRows-least : (rs : List Row) → PassingChoice ps rs → loadOf (leastRows vs) ⊑ loadOf rs
+  leastRows-least rs c =
+      let k = passing-under ps rs c in
+      ⊑-trans (loadOf-ok (k .rows)) (leastLoaded-least (keptChoices vs) (k .rows) (k .kept)) (k .lighter)
 
-    pub leastRows-kept : Each FromKept ps leastRows
-    leastRows-kept = choices-kept ps leastRows .0 (leastLoaded-member keptChoices some-choice)
+  pub leastRows-greatest : (rs : List Row) → BuiltFromKept ps rs → loadOf rs ⊑ loadOf (leastRows vs) → Each (λ r s. s .holding ≤ r .holding) (leastRows vs) rs
+  leastRows-greatest rs k h = leastLoaded-greatest (keptRows-sorted vs) rs (choices-kept vs rs .1 k) h
 
-    pub leastRows-passes : passesSystem leastRows ≡ true
-    leastRows-passes = some-passes keptChoices some-choice .0 e
+-- questions 10 and 11 in their order
+module _ (vs : List Partition) where
+  rows-10 : everyKept vs ≡ false → chosenRows vs ≡ refused (NoBudget (firstOf isEmpty (offered vs)))
+  unfolding chosenRows choiceQuestions whenDone firstNo
+  rows-10 e = simp e
 
-    pub leastRows-least : (rs : List Row) → PassingChoice ps rs → loadOf leastRows ⊑ loadOf rs
-    leastRows-least rs c =
-        let k = passing-under ps rs c in
-        ⊑-trans (loadOf-ok (k .rows)) (leastLoaded-least keptChoices (k .rows) (k .kept)) (k .lighter)
+  rows-11 : everyKept vs ≡ true → some passesSystem (keptChoices vs) ≡ false → chosenRows vs ≡ refused NoChoice
+  unfolding chosenRows choiceQuestions whenDone firstNo
+  rows-11 e f = simp (e, f)
 
-    pub leastRows-greatest : (rs : List Row) → Each FromKept ps rs → loadOf rs ⊑ loadOf leastRows → Each (λ r s. s .holding ≤ r .holding) leastRows rs
-    leastRows-greatest rs k h = leastLoaded-greatest (keptRows-sorted ps) rs (choices-kept ps rs .1 k) h
+  rows-chosen : everyKept vs ≡ true → some passesSystem (keptChoices vs) ≡ true → chosenRows vs ≡ answered (leastRows vs)
+  unfolding chosenRows choiceQuestions whenDone firstNo
+  rows-chosen e f = simp (e, f)
 
-  -- questions 10, 11 and 14 in their order
-  module _ (room : ℕ) where
-    pub refused-10 : everyKept ≡ false → planParts ps room ≡ refused (NoBudget (firstOf isEmpty (map keptRows ps)))
-    unfolding planParts planQuestions choiceQuestions whenDone firstNo
-    refused-10 e = simp e
+  -- where there are rows, both have the answer yes
+  pub record RowsChosen (rows : List Row) : Type 0 where
+    pub every-kept : everyKept vs ≡ true
+    pub passing : some passesSystem (keptChoices vs) ≡ true
+    pub are : rows ≡ leastRows vs
 
-    pub refused-11 : everyKept ≡ true → some passesSystem keptChoices ≡ false → planParts ps room ≡ refused NoChoice
-    unfolding planParts planQuestions choiceQuestions whenDone firstNo
-    refused-11 e f = simp (e, f)
+  pub rows-answered : (rows : List Row) → chosenRows vs ≡ answered rows → RowsChosen rows
+  rows-answered rows a = go (everyKept vs) refl (some passesSystem (keptChoices vs)) refl
+    where
+      go : (b : Bool) → everyKept vs ≡ b → (c : Bool) → some passesSystem (keptChoices vs) ≡ c → RowsChosen rows
+      go false e c f = absurd (answered-not-refused (sym a ∙ rows-10 e))
+      go true e false f = absurd (answered-not-refused (sym a ∙ rows-11 e f))
+      go true e true f = record { every-kept = e; passing = f; are = answer-same-value (sym a ∙ rows-chosen e f) }
 
-    text-or-14 : (b : Bool) → whenDone (cond b Done (Refused NoRoom)) (answered text) ≡ cond b (answered text) (refused NoRoom)
-    unfolding whenDone
-    text-or-14 true = refl
-    text-or-14 false = refl
+pub listed-or-14 : (plan : Plan) (room : ℕ) → listedIn room plan ≡ cond (leb (length (planText plan)) room) (answered (planText plan)) (refused NoRoom)
+unfolding listedIn whenDone firstNo
+listed-or-14 plan room = go (leb (length (planText plan)) room)
+  where
+    go : (b : Bool) → whenDone (cond b Done (Refused NoRoom)) (answered (planText plan)) ≡ cond b (answered (planText plan)) (refused NoRoom)
+    go true = refl
+    go false = refl
 
-    pub planned-or-14 : everyKept ≡ true → some passesSystem keptChoices ≡ true → planParts ps room ≡ cond (leb (length text) room) (answered text) (refused NoRoom)
-    unfolding planParts planQuestions choiceQuestions firstNo
-    planned-or-14 e f = simp (e, f) (text-or-14 (leb (length text) room))
+module _ (s : List ℕ) (ps : List PlanPart) (room : ℕ) (e : partsOf s ≡ answered ps) where
+  plan-parts : planOf s room ≡ whenAnswered (chosenPlan ps) (listedIn room)
+  unfolding planOf planFile whenAnswered
+  plan-parts = rw e refl
 
-pub plan-parts : (s : List ℕ) (ps : List FilePart) (room : ℕ) → readFile s ≡ answered ps → planOf s room ≡ planParts ps room
-unfolding planOf whenAnswered
-plan-parts s ps room e = rw e refl
+  -- what becomes of an answer to questions 10 and 11
+  abbrev listed : Answer (List Row) → Answer (List ℕ)
+  listed a = whenAnswered (whenAnswered a (λ rows. answered (record { parts = ps; rows = rows }))) (listedIn room)
+
+  plan-rows : planOf s room ≡ listed (chosenRows (partitions ps))
+  unfolding chosenPlan
+  plan-rows = plan-parts
+
+  pub refused-10 : everyKept (partitions ps) ≡ false → planOf s room ≡ refused (NoBudget (firstOf isEmpty (offered (partitions ps))))
+  unfolding whenAnswered
+  refused-10 h = plan-rows ∙ ap listed (rows-10 (partitions ps) h)
+
+  pub refused-11 : everyKept (partitions ps) ≡ true → some passesSystem (keptChoices (partitions ps)) ≡ false → planOf s room ≡ refused NoChoice
+  unfolding whenAnswered
+  refused-11 h f = plan-rows ∙ ap listed (rows-11 (partitions ps) h f)
+
+  pub planned-or-14 : everyKept (partitions ps) ≡ true → some passesSystem (keptChoices (partitions ps)) ≡ true → planOf s room ≡ cond (leb (length (text ps)) room) (answered (text ps)) (refused NoRoom)
+  unfolding whenAnswered
+  planned-or-14 h f = plan-rows ∙ ap listed (rows-chosen (partitions ps) h f) ∙ listed-or-14 (record { parts = ps; rows = leastRows (partitions ps) }) room

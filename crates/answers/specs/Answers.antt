@@ -1,9 +1,10 @@
 -- The answers of the five operations, for every list of bytes and all numbers (weighing: `weighOf` of the crate load).
---   planOf s room      == the listing of the file s, or the refusal of the first no among 1 to 11 and 14
+--   planOf s room      == the listing of the file s, or the refusal of the first no among 1 to 11, then 14
 --   candidatesOf s k   == the kept pairs of part k, or the first no among 1 to 9, 12 and 10 for that part alone
 --   nameOf s k         == the name of part k, or the first no among 1 to 9 and 12
 --   supplyAnswer P Q t == the supply of (P,Q) in t ticks, or 12
---   planQuestions, candidateQuestions, nameQuestions, supplyQuestions == what each of them asks, in this order, behind questions 1 to 9
+--   listedIn room plan == the listing of a plan, or 14
+--   candidateQuestions, nameQuestions, supplyQuestions == what each of them asks, in this order, behind questions 1 to 9
 --   planned a, candidateList a, nameBytes a, supplied a == such an answer as the operation hands it over: a refusal has zeros everywhere else
 --   bufferAfter a out  == the lent bytes after a plan: the listing and, after it, what was there; all as it was on refusal
 --   HandedOver a before r after == r is the result and `after` the lent bytes once the answer a is handed over; `before` are the lent bytes before that
@@ -12,10 +13,10 @@
 use Prim.Native.Nat.{ℕ}
 use mathlib.Core.Path.{_≡_}
 use mathlib.Core.Bool.{Bool, not, _&&_}
-use mathlib.Core.List.{List, [], _∷_, _++_, map}
+use mathlib.Core.List.{List, [], _∷_, _++_}
 use lib.Dec.{leb}
 use lib.ListN.{length, drop}
-use Rattle.least.specs.Lists.{isEmpty, nthOr}
+use Rattle.least.specs.Lists.{isEmpty}
 use Rattle.refusal.specs.declared.Outcome.the-variants.{Done, Refused}
 use Rattle.refusal.specs.declared.Refusal.the-variants.{NoBudget, BadHandSet, NoRoom}
 use Rattle.refusal.specs.Limits.{numberLimit}
@@ -23,59 +24,44 @@ use Rattle.refusal.specs.Questions.{Question, ask, firstNo, Answer, whenAnswere
 use Rattle.refusal.specs.Questions.Answer.{answered, refused}
 use Rattle.supply.specs.Supply.{supplyOf}
 use Rattle.candidates.specs.declared.Pair.{Pair}
-use Rattle.candidates.specs.Candidates.{keptAnswer}
-use Rattle.load.specs.declared.Row.{Row}
-use Rattle.load.specs.Load.{boundsOf}
-use Rattle.selection.specs.Selection.{choices, leastLoaded}
-use Rattle.selection.specs.Questions.{choiceQuestions}
-use Rattle.plan_file.specs.Above.{FilePart, noPart}
-use Rattle.plan_file.specs.Reading.{readFile}
-use Rattle.listing.specs.Listing.{listingOf}
+use Rattle.candidates.specs.Candidates.{keptList, keptAnswer}
+use Rattle.plan_file.specs.Numbers.{PlanPart, partsOf, partAt}
 use Rattle.answers.specs.declared.Planned.{Planned}
 use Rattle.answers.specs.declared.CandidateList.{CandidateList}
 use Rattle.answers.specs.declared.Supplied.{Supplied}
-use Rattle.answers.specs.Parts.{keptPairs, keptRows, sharesOf}
+use Rattle.answers.specs.Plan.{Plan, planFile, planText}
 
--- the rows of the plan: the first choice of least load among those built from kept pairs
-unfoldable pub planRows : List (List Row) → List Row
-planRows kept = leastLoaded (choices kept)
-
-unfoldable pub planText : List FilePart → List Row → List ℕ
-planText parts rows = listingOf (sharesOf parts rows (boundsOf rows))
-
--- questions 10, 11 and 14
-unfoldable pub planQuestions : List (List Row) → List ℕ → ℕ → List Question
-planQuestions kept text room = choiceQuestions kept ++ (ask NoRoom (leb (length text) room) ∷ [])
-
-unfoldable pub planParts : List FilePart → ℕ → Answer (List ℕ)
-planParts parts room =
-    let kept = map keptRows parts in
-    let text = planText parts (planRows kept) in
-    whenDone (firstNo (planQuestions kept text room)) (answered text)
+-- question 14
+unfoldable pub listedIn : ℕ → Plan → Answer (List ℕ)
+listedIn room plan = whenDone (firstNo (ask NoRoom (leb (length (planText plan)) room) ∷ [])) (answered (planText plan))
 
 unfoldable pub planOf : List ℕ → ℕ → Answer (List ℕ)
-planOf s room = whenAnswered (readFile s) (λ parts. planParts parts room)
+planOf s room = whenAnswered (planFile s) (listedIn room)
 
 -- question 12 for a part number
-abbrev pub isPartNumber : ℕ → List FilePart → Bool
+abbrev pub isPartNumber : ℕ → List PlanPart → Bool
 isPartNumber k parts = leb 1 k && leb k (length parts)
 
+-- the kept list of part k
+abbrev pub keptAt : List PlanPart → ℕ → List Pair
+keptAt parts k = keptList (partAt parts k .numbers)
+
 -- questions 12 and 10
-abbrev pub candidateQuestions : ℕ → List FilePart → List Question
+abbrev pub candidateQuestions : ℕ → List PlanPart → List Question
 candidateQuestions k parts =
     ask (BadHandSet 0) (isPartNumber k parts)
-    ∷ ask (NoBudget k) (not (isEmpty (keptPairs (nthOr noPart k parts))))
+    ∷ ask (NoBudget k) (not (isEmpty (keptAt parts k)))
     ∷ []
 
 unfoldable pub candidatesOf : List ℕ → ℕ → Answer (List Pair)
-candidatesOf s k = whenAnswered (readFile s) (λ parts. whenDone (firstNo (candidateQuestions k parts)) (answered (keptPairs (nthOr noPart k parts))))
+candidatesOf s k = whenAnswered (partsOf s) (λ parts. whenDone (firstNo (candidateQuestions k parts)) (answered (keptAt parts k)))
 
 -- question 12
-abbrev pub nameQuestions : ℕ → List FilePart → List Question
+abbrev pub nameQuestions : ℕ → List PlanPart → List Question
 nameQuestions k parts = ask (BadHandSet 0) (isPartNumber k parts) ∷ []
 
 unfoldable pub nameOf : List ℕ → ℕ → Answer (List ℕ)
-nameOf s k = whenAnswered (readFile s) (λ parts. whenDone (firstNo (nameQuestions k parts)) (answered (nthOr noPart k parts .name)))
+nameOf s k = whenAnswered (partsOf s) (λ parts. whenDone (firstNo (nameQuestions k parts)) (answered (partAt parts k .name)))
 
 -- question 12
 abbrev pub supplyQuestions : ℕ → ℕ → ℕ → List Question

@@ -1,3 +1,4 @@
 pub mod Parts
+pub mod Plan
 pub mod Answers
 pub mod Choice

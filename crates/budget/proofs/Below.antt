@@ -13,10 +13,10 @@ use Rattle.least.proofs.Round.{ceil-pos}
 use Rattle.supply.specs.Supply.{supplyOf}
 use Rattle.demand.proofs.Demand.{demand-next}
 use Rattle.task_set.specs.Blocking.{needOf}
-use Rattle.task_set.specs.ByColumn.{timesOf, FineTimes}
+use Rattle.task_set.specs.Code.ByColumn.{timesOf, FineTimes}
 use Rattle.task_set.proofs.Times.{times-demand}
 use Rattle.budget.specs.Budget.{isMet}
-use Rattle.budget.specs.Code.{dueTask}
+use Rattle.budget.specs.Code.Passing.{dueTask}
 
 -- the task at the place i with the blocking b, and the one above it with the blocking a
 module _ (T C : List ℕ) (n i a b D E t : ℕ) (fine : FineTimes T C n) (above : suc i < n) (l : a ≤ getD C i 0 + b) (some : 1 ≤ t) where

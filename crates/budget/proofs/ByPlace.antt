@@ -1,5 +1,5 @@
 -- The local test by places: a budget passes just if it passes for the task at each place, with its blocking and with the tasks above it.
---   taskPassesAt P ts m σ Q k == the task at the place k of ts passes with Q under the setting σ
+--   taskPassesAt v σ Q k == the task at the place k passes with Q under the setting σ
 -- Assumes nothing.
 use Prim.Native.Nat.{ℕ, suc, _+_, _<_}
 use mathlib.Core.Path.{_≡_, ap, fun-ext}
@@ -13,17 +13,18 @@ use Rattle.least.proofs.Along.{along-places}
 use Rattle.supply.specs.Supply.{supplyOf}
 use Rattle.task_set.specs.declared.Task.{Task}
 use Rattle.task_set.specs.Tasks.{demandIn}
+use Rattle.task_set.specs.Partition.{Partition}
 use Rattle.task_set.specs.Blocking.{Setting, blockingOf, needOf}
-use Rattle.task_set.specs.Fine.{blankTask}
+use Rattle.task_set.specs.Code.Fine.{blankTask}
 use Rattle.budget.specs.Budget.{taskPasses, passes}
 
-unfoldable pub taskPassesAt : ℕ → List Task → ℕ → Setting → ℕ → ℕ → Bool
-taskPassesAt P ts m σ Q k = taskPasses P Q (blockingOf m σ (reverse (take k ts))) (getD ts k blankTask) (drop (suc k) ts)
+unfoldable pub taskPassesAt : Partition → Setting → ℕ → ℕ → Bool
+taskPassesAt v σ Q k = taskPasses (v .period) Q (blockingOf (v .locks) σ (reverse (take k (v .tasks)))) (getD (v .tasks) k blankTask) (drop (suc k) (v .tasks))
 
-module _ (P : ℕ) (ts : List Task) (m : ℕ) (σ : Setting) (Q : ℕ) where
-  pub passes-places : (passes P ts m σ Q ≡ true) ↔ ((k : ℕ) → k < length ts → taskPassesAt P ts m σ Q k ≡ true)
+module _ (v : Partition) (σ : Setting) (Q : ℕ) where
+  pub passes-places : (passes v σ Q ≡ true) ↔ ((k : ℕ) → k < length (v .tasks) → taskPassesAt v σ Q k ≡ true)
   unfolding passes taskPassesAt
-  passes-places = along-places _ blankTask ts
+  passes-places = along-places _ blankTask (v .tasks)
 
 -- two tasks with the same C and the same deadline, below tasks that ask for the same, pass alike
 pub task-passes-same : (P Q b : ℕ) (task other : Task) (higher others : List Task) → task .cost ≡ other .cost → task .deadline ≡ other .deadline → ((w : ℕ) → demandIn higher w ≡ demandIn others w) → taskPasses P Q b task higher ≡ taskPasses P Q b other others

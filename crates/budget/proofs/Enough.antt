@@ -8,9 +8,10 @@ use mathlib.Core.Bool.{Bool}
 use lib.Dec.{leb}
 use borrow.Author.Tests.{le-leb, lt-leb, leb-true, leb-false}
 use Rattle.least.proofs.Bisect.{Rising, Bracket, bracket-down, bracket-up}
-use Rattle.supply.specs.Supply.{supplyOf, ReachIs}
+use Rattle.supply.specs.Supply.{supplyOf}
+use Rattle.supply.specs.Code.Supply.{ReachIs}
 use Rattle.supply.proofs.SupplyLaws.{supply-mono-Q, supply-le-t}
-use Rattle.budget.specs.Code.{EnoughIs}
+use Rattle.budget.specs.Code.Passing.{EnoughIs}
 
 abbrev pub enough : ℕ → ℕ → ℕ → ℕ → Bool
 enough P x t Q = leb x (supplyOf P Q t)

@@ -16,18 +16,19 @@ use Rattle.least.proofs.Round.{product}
 use Rattle.least.proofs.Search.{same-tests, least-iff, none-iff, any-true, any-false}
 use Rattle.least.proofs.Iterate.{Mono, settles, Unsolved, step-unsolved, past-limit, at-rest}
 use Rattle.refusal.specs.Limits.{numberLimit}
-use Rattle.supply.specs.Supply.{supplyOf, ReachIs}
+use Rattle.supply.specs.Supply.{supplyOf}
+use Rattle.supply.specs.Code.Supply.{ReachIs}
 use Rattle.supply.proofs.SupplyLaws.{reach, reach-iff, reach-mono, reach-over, reach-line, supply-mono-Q}
-use Rattle.demand.specs.Demand.{demandFrom}
+use Rattle.demand.specs.Code.Demand.{demandFrom}
 use Rattle.envelope.specs.declared.LinearSupply.{LinearSupply}
-use Rattle.envelope.specs.Envelope.{FineSupply, NoEarlier}
+use Rattle.envelope.specs.Code.Envelope.{FineSupply, NoEarlier}
 use Rattle.task_set.specs.declared.Task.{Task}
 use Rattle.task_set.specs.Blocking.{needOf}
-use Rattle.task_set.specs.ByColumn.{timesOf}
+use Rattle.task_set.specs.Code.ByColumn.{timesOf}
 use Rattle.task_set.proofs.Demand.{Separated, demand-mono}
 use Rattle.task_set.proofs.Times.{times-demand}
 use Rattle.budget.specs.Budget.{isMet, taskPasses}
-use Rattle.budget.specs.Code.{passingTime, NoneMet}
+use Rattle.budget.specs.Code.Passing.{passingTime, NoneMet}
 
 abbrev pub ticks : ℕ → ℕ → ℕ → Task → List Task → ℕ → ℕ
 ticks P Q b task higher t = reach P Q (needOf b task higher t)

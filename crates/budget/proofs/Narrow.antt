@@ -22,7 +22,7 @@ use Rattle.task_set.specs.Blocking.{needOf}
 use Rattle.task_set.proofs.Demand.{Separated, demand-mono}
 use Rattle.budget.specs.declared.Passed.{Passed}
 use Rattle.budget.specs.Budget.{isMet, taskPasses}
-use Rattle.budget.specs.Code.{passingTime, NoneMet, EnoughIs, budgetFrom, PassedIs}
+use Rattle.budget.specs.Code.Passing.{passingTime, NoneMet, EnoughIs, budgetFrom, PassedIs}
 use Rattle.budget.proofs.Passing.{taskPasses-iff, task-mono-Q}
 use Rattle.budget.proofs.Iteration.{time-passes, no-time-fails, time-first, none-met-less}
 

@@ -10,13 +10,14 @@ use mathlib.Core.List.{List, _∷_, _++_, reverse}
 use mathlib.Core.Logic.{_↔_}
 use borrow.Author.Tests.{le-leb, leb-true}
 use Rattle.least.specs.declared.Least.the-variants.{At}
-use Rattle.least.specs.Search.{IsLeast}
+use Rattle.least.specs.Code.Search.{IsLeast}
 use Rattle.least.proofs.Search.{least-iff, any-iff}
 use Rattle.least.proofs.Bisect.{least-after}
 use Rattle.least.proofs.Along.{along-iff}
 use Rattle.supply.specs.Supply.{supplyOf}
 use Rattle.supply.proofs.SupplyLaws.{supply-mono-Q}
 use Rattle.task_set.specs.declared.Task.{Task}
+use Rattle.task_set.specs.Partition.{Partition}
 use Rattle.task_set.specs.Blocking.{Setting, blockingOf, needOf}
 use Rattle.task_set.proofs.Blocking.{blocking-mono}
 use Rattle.budget.specs.Budget.{taskPasses, passes, leastBudget}
@@ -37,12 +38,12 @@ taskPasses-iff P Q blocking task higher = (to, from)
     from f = any-iff _ (task .deadline) .1 (f .0, f .1, f .2, le-leb _ _ (f .3))
 
 -- each task i of the part passes: the i − 1 tasks `lower` stand before it, nearest first, and the tasks `higher` behind it
-pub passes-paper : (P : ℕ) (ts : List Task) (m : ℕ) (σ : Setting) (Q : ℕ)
-    → (passes P ts m σ Q ≡ true) ↔ ((lower : List Task) (task : Task) (higher : List Task) → reverse lower ++ (task ∷ higher) ≡ ts → Met P Q (blockingOf m σ lower) task higher)
+pub passes-paper : (v : Partition) (σ : Setting) (Q : ℕ)
+    → (passes v σ Q ≡ true) ↔ ((lower : List Task) (task : Task) (higher : List Task) → reverse lower ++ (task ∷ higher) ≡ v .tasks → Met (v .period) Q (blockingOf (v .locks) σ lower) task higher)
 unfolding passes
-passes-paper P ts m σ Q = (
-  (λ q lower task higher e. taskPasses-iff P Q (blockingOf m σ lower) task higher .0 (along-iff _ ts .0 q lower task higher e)),
-  (λ h. along-iff _ ts .1 (λ lower task higher e. taskPasses-iff P Q (blockingOf m σ lower) task higher .1 (h lower task higher e))),
+passes-paper v σ Q = (
+  (λ q lower task higher e. taskPasses-iff (v .period) Q (blockingOf (v .locks) σ lower) task higher .0 (along-iff _ (v .tasks) .0 q lower task higher e)),
+  (λ h. along-iff _ (v .tasks) .1 (λ lower task higher e. taskPasses-iff (v .period) Q (blockingOf (v .locks) σ lower) task higher .1 (h lower task higher e))),
 )
 
 -- a greater budget and less blocking meet what a smaller budget and more blocking do
@@ -55,20 +56,20 @@ task-mono-Q P Q R b task higher o l u t =
     taskPasses-iff P R b task higher .1 (met-more P Q R b b task higher o l u (le-refl b) (taskPasses-iff P Q b task higher .0 t))
 
 -- the same of a part: ceilings that are no higher block no more
-pub passes-more : (P : ℕ) (ts : List Task) (m : ℕ) (σ τ : Setting) (Q R : ℕ) → 1 ≤ Q → Q ≤ R → R ≤ P
-    → ((l : ℕ) → 1 ≤ l → l ≤ m → τ l ≤ σ l) → passes P ts m σ Q ≡ true → passes P ts m τ R ≡ true
-passes-more P ts m σ τ Q R o l u low q =
-    passes-paper P ts m τ R .1 (λ lower task higher e. met-more P Q R _ _ task higher o l u (blocking-mono m τ σ lower low) (passes-paper P ts m σ Q .0 q lower task higher e))
+pub passes-more : (v : Partition) (σ τ : Setting) (Q R : ℕ) → 1 ≤ Q → Q ≤ R → R ≤ v .period
+    → ((l : ℕ) → 1 ≤ l → l ≤ v .locks → τ l ≤ σ l) → passes v σ Q ≡ true → passes v τ R ≡ true
+passes-more v σ τ Q R o l u low q =
+    passes-paper v τ R .1 (λ lower task higher e. met-more (v .period) Q R _ _ task higher o l u (blocking-mono (v .locks) τ σ lower low) (passes-paper v σ Q .0 q lower task higher e))
 
-module _ (P : ℕ) (ts : List Task) (m : ℕ) (σ : Setting) where
-  pub passes-mono-Q : (Q R : ℕ) → 1 ≤ Q → Q ≤ R → R ≤ P → passes P ts m σ Q ≡ true → passes P ts m σ R ≡ true
-  passes-mono-Q Q R o l u q = passes-more P ts m σ σ Q R o l u (λ k a b. le-refl (σ k)) q
+module _ (v : Partition) (σ : Setting) where
+  pub passes-mono-Q : (Q R : ℕ) → 1 ≤ Q → Q ≤ R → R ≤ v .period → passes v σ Q ≡ true → passes v σ R ≡ true
+  passes-mono-Q Q R o l u q = passes-more v σ σ Q R o l u (λ k a b. le-refl (σ k)) q
 
-  pub budget-iff : (Q : ℕ) → (leastBudget P ts m σ ≡ At Q) ↔ (IsLeast (passes P ts m σ) Q × (Q ≤ P))
+  pub budget-iff : (Q : ℕ) → (leastBudget v σ ≡ At Q) ↔ (IsLeast (passes v σ) Q × (Q ≤ v .period))
   unfolding leastBudget
-  budget-iff Q = least-iff (passes P ts m σ) P Q
+  budget-iff Q = least-iff (passes v σ) (v .period) Q
 
   -- two values settle it
-  pub budget-after : (Q : ℕ) → Q < P → passes P ts m σ Q ≡ false → passes P ts m σ (Q + 1) ≡ true → leastBudget P ts m σ ≡ At (Q + 1)
+  pub budget-after : (Q : ℕ) → Q < v .period → passes v σ Q ≡ false → passes v σ (Q + 1) ≡ true → leastBudget v σ ≡ At (Q + 1)
   unfolding leastBudget
-  budget-after Q l f t = least-after (passes P ts m σ) P Q passes-mono-Q l f t
+  budget-after Q l f t = least-after (passes v σ) (v .period) Q passes-mono-Q l f t

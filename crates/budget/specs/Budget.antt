@@ -1,8 +1,8 @@
--- The local test (document 001, equation 3) of a part with period P, the tasks `ts` and the locks 1 to m, under the setting σ.
+-- The local test (document 001, equation 3) of a partition v under the setting σ.
 --   isMet P Q blocking task higher t == C_i + Σ_{k>i} ⌈t/T_k⌉×C_k + blocking ≤ supply(t)
 --   taskPasses P Q blocking task higher == some t, 1 ≤ t ≤ D_i, has that
---   passes P ts m σ Q      == a budget Q passes: every task i does
---   leastBudget P ts m σ   == the least Q, 1 ≤ Q ≤ P, that passes, if there is one
+--   passes v σ Q      == a budget Q passes: every task i does
+--   leastBudget v σ   == the least Q, 1 ≤ Q ≤ P, that passes, if there is one
 -- Assumes nothing.
 use Prim.Native.Nat.{ℕ}
 use mathlib.Core.Bool.{Bool}
@@ -13,6 +13,7 @@ use Rattle.least.specs.Search.{leastUpTo, anyUpTo}
 use Rattle.least.specs.Lists.{everyAlong}
 use Rattle.supply.specs.Supply.{supplyOf}
 use Rattle.task_set.specs.declared.Task.{Task}
+use Rattle.task_set.specs.Partition.{Partition}
 use Rattle.task_set.specs.Blocking.{Setting, blockingOf, needOf}
 
 abbrev pub isMet : ℕ → ℕ → ℕ → Task → List Task → ℕ → Bool
@@ -21,8 +22,8 @@ isMet P Q blocking task higher t = leb (needOf blocking task higher t) (supplyOf
 unfoldable pub taskPasses : ℕ → ℕ → ℕ → Task → List Task → Bool
 taskPasses P Q blocking task higher = anyUpTo (isMet P Q blocking task higher) (task .deadline)
 
-unfoldable pub passes : ℕ → List Task → ℕ → Setting → ℕ → Bool
-passes P ts m σ Q = everyAlong (λ lower task higher. taskPasses P Q (blockingOf m σ lower) task higher) ts
+unfoldable pub passes : Partition → Setting → ℕ → Bool
+passes v σ Q = everyAlong (λ lower task higher. taskPasses (v .period) Q (blockingOf (v .locks) σ lower) task higher) (v .tasks)
 
-unfoldable pub leastBudget : ℕ → List Task → ℕ → Setting → Least
-leastBudget P ts m σ = leastUpTo (passes P ts m σ) P
+unfoldable pub leastBudget : Partition → Setting → Least
+leastBudget v σ = leastUpTo (passes v σ) (v .period)

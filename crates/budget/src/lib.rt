@@ -6,8 +6,8 @@ ghost use Prim.Native.Nat.{suc, _≤_, _<_};
 ghost use Rattle.refusal.specs.Limits.{numberLimit};
 ghost use Rattle.task_set.specs.Tasks.{higher};
 ghost use Rattle.task_set.specs.Blocking.{needOf};
-ghost use Rattle.task_set.specs.ByColumn.{timesOf, FineTimes};
-ghost use Rattle.budget.specs.Code.{dueTask, passingTime, NoneMet, EnoughIs, budgetFrom, PassedIs};
+ghost use Rattle.task_set.specs.Code.ByColumn.{timesOf, FineTimes};
+ghost use Rattle.budget.specs.Code.Passing.{dueTask, passingTime, NoneMet, EnoughIs, budgetFrom, PassedIs};
 
 // The least time up to its deadline at which the task at the place i, blocked for at most b ticks, has got what it needs with the budget q. There is
 // none before `start`.

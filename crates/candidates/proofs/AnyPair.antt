@@ -1,6 +1,6 @@
 -- A part has a kept pair just if a budget passes at the lowest ceilings of its locks: they block least, and a setting under which a budget passes is permitted.
 -- Assumes nothing.
-use Prim.Native.Nat.{ℕ, suc, _-_, _≤_, _<_}
+use Prim.Native.Nat.{ℕ, zero, suc, _≤_, _<_}
 use native.Mathlib.Nat.{le-refl}
 use native.Mathlib.Omega.{arith}
 use mathlib.Core.Path.{_≡_, refl, sym, ap, subst, _∙_}
@@ -16,13 +16,17 @@ use Rattle.task_set.specs.declared.Task.{Task}
 use Rattle.task_set.specs.declared.Part.{Part}
 use Rattle.task_set.specs.declared.Columns.{Columns}
 use Rattle.task_set.specs.declared.Locks.{Locks}
-use Rattle.task_set.specs.Tasks.{heldFor, lowestCeiling, tasksOf}
+use Rattle.task_set.specs.Tasks.{heldFor, lowestCeiling}
+use Rattle.task_set.specs.Code.Tasks.{tasksOf}
+use Rattle.task_set.specs.Partition.{Partition}
+use Rattle.task_set.specs.Code.Partition.{partitionOf}
 use Rattle.task_set.specs.Blocking.{Setting}
-use Rattle.task_set.specs.Fine.{blankTask}
-use Rattle.task_set.specs.ByColumn.{timesOf}
-use Rattle.task_set.specs.ByLock.{blockingBy, settingOf}
+use Rattle.task_set.specs.Code.Fine.{blankTask}
+use Rattle.task_set.specs.Code.ByColumn.{timesOf}
+use Rattle.task_set.specs.Code.ByLock.{blockingBy, settingOf}
 use Rattle.task_set.proofs.Places.{tasks-length, held-at}
 use Rattle.task_set.proofs.ByLock.{lowest-most}
+use Rattle.task_set.proofs.BlockingAt.{setting-at}
 use Rattle.holding.specs.Holding.{holdingTimeOf}
 use Rattle.holding.proofs.Holding.{Ranged, inRange-paper}
 use Rattle.budget.specs.Budget.{passes, leastBudget}
@@ -31,22 +35,22 @@ use Rattle.candidates.specs.declared.Pair.{Pair}
 use Rattle.candidates.specs.declared.Budgeted.{Budgeted}
 use Rattle.candidates.specs.Candidates.{pair, keptList}
 use Rattle.candidates.specs.Statement.{Permitted, Candidate}
-use Rattle.candidates.specs.Code.{budgetStep, BudgetIs, hasPair}
+use Rattle.candidates.specs.Code.KeptSearch.{budgetStep, BudgetIs, hasPair}
 use Rattle.candidates.proofs.Candidates.{kept-empty, kept-none}
 use Rattle.candidates.proofs.Lowest.{Tested, task-is, lowest-found, lowest-missed}
 use Rattle.candidates.proofs.Permits.{passing-permits}
 use Rattle.candidates.proofs.Searching.{Prepared}
 
-module _ (P : ℕ) (ts : List Task) (m : ℕ) where
-  some-pair : {c : Pair} → Candidate P ts m c → hasPair P ts m ≡ true
+module _ (v : Partition) where
+  some-pair : {c : Pair} → Candidate v c → hasPair v ≡ true
   unfolding hasPair isEmpty
-  some-pair {c} some = go (keptList P ts m) refl
+  some-pair {c} some = go (keptList v) refl
     where
-      go : (cs : List Pair) → keptList P ts m ≡ cs → hasPair P ts m ≡ true
-      go [] e = absurd (kept-empty P ts m .0 e c some)
+      go : (cs : List Pair) → keptList v ≡ cs → hasPair v ≡ true
+      go [] e = absurd (kept-empty v .0 e c some)
       go (d ∷ cs) e = rw e refl
 
-  no-pair : keptList P ts m ≡ [] → hasPair P ts m ≡ false
+  no-pair : keptList v ≡ [] → hasPair v ≡ false
   unfolding hasPair isEmpty
   no-pair e = rw e refl
 
@@ -55,11 +59,10 @@ module _ (p : Part) (c : Columns) (k : Locks) (table : List ℕ) (ready : Prepar
   lowest = settingOf (k .lowest)
 
   lowest-is : (l : ℕ) → 1 ≤ l → l ≤ p .locks → lowest l ≡ lowestCeiling l (tasksOf p)
-  lowest-is l a b =
-      let e : suc (l - 1) ≡ l = omega arith in
-      ready .locks .lowest (l - 1) (omega arith) ∙ ap (λ (i : ℕ). lowestCeiling i (tasksOf p)) e
+  lowest-is zero a b = absurd (omega arith)
+  lowest-is (suc j) a b = setting-at (k .lowest) j ∙ ready .locks .lowest j (omega arith)
 
-  lowest-ranged : Ranged (tasksOf p) (p .locks) lowest
+  lowest-ranged : Ranged (partitionOf p) lowest
   lowest-ranged l a b = (omega (arith, lowest-is l a b), omega (arith, lowest-is l a b, lowest-most p (ready .fine) l a b, tasks-length p (ready .fine)))
 
   -- the task at the place j is in range
@@ -79,30 +82,30 @@ module _ (p : Part) (c : Columns) (k : Locks) (table : List ℕ) (ready : Prepar
     none-tested : Tested p c (replicate 16 x) 1
     none-tested i l = inl (omega (arith, getD-replicate 16 i x 0 (omega (arith, ready .fine .few))))
 
-    least : b .found ≡ true → leastBudget (p .period) (tasksOf p) (p .locks) lowest ≡ At (b .budget)
+    least : b .found ≡ true → leastBudget (partitionOf p) lowest ≡ At (b .budget)
     least e = lowest-found p (ready .fine) c (ready .columns) table (ready .below) (k .lowest) (replicate 16 x) 1 (le-refl 1) (ready .period-some) none-tested (λ v a l. absurd (omega arith)) (b .budget) (has .value e)
 
-    candidate : b .found ≡ true → Candidate (p .period) (tasksOf p) (p .locks) (pair (b .budget) (holdingTimeOf (tasksOf p) (p .locks) lowest))
+    candidate : b .found ≡ true → Candidate (partitionOf p) (pair (b .budget) (holdingTimeOf (partitionOf p) lowest))
     candidate e =
-        let l = budget-iff (p .period) (tasksOf p) (p .locks) lowest (b .budget) .0 (least e) in
+        let l = budget-iff (partitionOf p) lowest (b .budget) .0 (least e) in
         record {
           setting = lowest;
-          allowed = passing-permits (p .period) (tasksOf p) (p .locks) lowest (b .budget) apart held-within (ready .fine .used) lowest-ranged (l .0 .positive) (l .1) (l .0 .passes);
+          allowed = passing-permits (partitionOf p) lowest (b .budget) apart held-within (ready .fine .used) lowest-ranged (l .0 .positive) (l .1) (l .0 .passes);
           holding = refl;
           budget = least e;
         }
 
-    nothing : b .found ≡ false → (σ : Setting) (Q : ℕ) → Permitted (tasksOf p) (p .locks) σ → 1 ≤ Q → Q ≤ p .period → passes (p .period) (tasksOf p) (p .locks) σ Q ≡ true → ⊥
+    nothing : b .found ≡ false → (σ : Setting) (Q : ℕ) → Permitted (partitionOf p) σ → 1 ≤ Q → Q ≤ p .period → passes (partitionOf p) σ Q ≡ true → ⊥
     unfolding leastBudget
     nothing e σ Q ok a u t =
-        let ranged = inRange-paper (tasksOf p) (p .locks) σ .0 (ok .ranged) in
+        let ranged = inRange-paper (partitionOf p) σ .0 (ok .ranged) in
         let none = lowest-missed p (ready .fine) c (ready .columns) table (ready .below) (k .lowest) (replicate 16 x) 1 (le-refl 1) (ready .period-some) none-tested (λ v o l. absurd (omega arith)) (has .missed e) in
-        let more = passes-more (p .period) (tasksOf p) (p .locks) σ lowest Q Q a (le-refl Q) u (λ l o d. omega (arith, lowest-is l o d, ranged l o d .0)) t in
-        false≢true (sym (none-iff (passes (p .period) (tasksOf p) (p .locks) lowest) (p .period) .0 none Q a u) ∙ more)
+        let more = passes-more (partitionOf p) σ lowest Q Q a (le-refl Q) u (λ l o d. omega (arith, lowest-is l o d, ranged l o d .0)) t in
+        false≢true (sym (none-iff (passes (partitionOf p) lowest) (p .period) .0 none Q a u) ∙ more)
 
-    pub lowest-pair : b .found ≡ hasPair (p .period) (tasksOf p) (p .locks)
+    pub lowest-pair : b .found ≡ hasPair (partitionOf p)
     lowest-pair = go (b .found) refl
       where
-        go : (f : Bool) → b .found ≡ f → b .found ≡ hasPair (p .period) (tasksOf p) (p .locks)
-        go true e = e ∙ sym (some-pair (p .period) (tasksOf p) (p .locks) (candidate e))
-        go false e = e ∙ sym (no-pair (p .period) (tasksOf p) (p .locks) (kept-none (p .period) (tasksOf p) (p .locks) .1 (nothing e)))
+        go : (f : Bool) → b .found ≡ f → b .found ≡ hasPair (partitionOf p)
+        go true e = e ∙ sym (some-pair (partitionOf p) (candidate e))
+        go false e = e ∙ sym (no-pair (partitionOf p) (kept-none (partitionOf p) .1 (nothing e)))

@@ -16,9 +16,9 @@ use Rattle.least.specs.declared.Least.the-variants.{At, Nothing}
 use Rattle.least.proofs.Search.{least-found, least-missed}
 use Rattle.task_set.specs.declared.Task.{Task}
 use Rattle.budget.specs.Budget.{taskPasses}
-use Rattle.budget.specs.Code.{dueTask, budgetFrom}
+use Rattle.budget.specs.Code.Passing.{dueTask, budgetFrom}
 use Rattle.budget.proofs.Passing.{task-mono-Q}
-use Rattle.candidates.specs.Code.{budgetAgain, budgetDown, budgetStep, BudgetIs}
+use Rattle.candidates.specs.Code.KeptSearch.{budgetAgain, budgetDown, budgetStep, BudgetIs}
 
 module _ (P b : ℕ) (task : Task) (higher : List Task) where
   -- the least budget from q on

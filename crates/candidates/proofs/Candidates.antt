@@ -5,12 +5,12 @@ use native.Mathlib.Omega.{arith}
 use mathlib.Core.Path.{_≡_, refl, sym, ap, _∙_, subst}
 use mathlib.Core.Bool.{Bool, true, false, cond}
 use mathlib.Core.Logic.{_↔_}
-use mathlib.Core.List.{List, [], List·Memᴰ, List·Memᴰ·head, List·Memᴰ·not-nil, List·Memᴰ·eq-of-singleton}
+use mathlib.Core.List.{[], List·Memᴰ, List·Memᴰ·head, List·Memᴰ·not-nil, List·Memᴰ·eq-of-singleton}
 use Rattle.least.specs.declared.Least.{Least}
 use Rattle.least.specs.declared.Least.the-variants.{At, Nothing}
 use Rattle.least.proofs.Search.{least-upto, least-iff}
 use Rattle.least.proofs.Lists.{joined-map-iff, no-member}
-use Rattle.task_set.specs.declared.Task.{Task}
+use Rattle.task_set.specs.Partition.{Partition}
 use Rattle.task_set.specs.Blocking.{Setting}
 use Rattle.task_set.proofs.SettingsAgree.{Agree}
 use Rattle.holding.specs.Holding.{permitted, holdingTimeOf}
@@ -31,104 +31,104 @@ pairWith-iff X (At Q) c = (to, λ h. List·Memᴰ·head (pair-same c (pair Q X) 
     to m = let e = List·Memᴰ·eq-of-singleton m in (ap (λ p. p .holding) (sym e), ap (λ p. At (p .budget)) (sym e))
 pairWith-iff X Nothing c = ((λ m. absurd (List·Memᴰ·not-nil m)), λ h. let z : _≡_ {A = ℕ} 0 1 = cc (h .1) in absurd (omega arith))
 
-module _ (P : ℕ) (ts : List Task) (m : ℕ) where
+module _ (v : Partition) where
   -- σ is permitted, and c is its X with its least passing Q
   pub record PairOf (σ : Setting) (c : Pair) : Type 0 where
-    pub held : permitted ts m σ ≡ true
-    pub holding : holdingTimeOf ts m σ ≡ c .holding
-    pub budget : leastBudget P ts m σ ≡ At (c .budget)
+    pub held : permitted v σ ≡ true
+    pub holding : holdingTimeOf v σ ≡ c .holding
+    pub budget : leastBudget v σ ≡ At (c .budget)
 
-  candidateOf-iff : (σ : Setting) (c : Pair) → List·Memᴰ c (candidateOf P ts m σ) ↔ PairOf σ c
+  candidateOf-iff : (σ : Setting) (c : Pair) → List·Memᴰ c (candidateOf v σ) ↔ PairOf σ c
   unfolding candidateOf
   candidateOf-iff σ c = (to, from)
     where
-      to : List·Memᴰ c (candidateOf P ts m σ) → PairOf σ c
-      to k = go (permitted ts m σ) refl k
+      to : List·Memᴰ c (candidateOf v σ) → PairOf σ c
+      to k = go (permitted v σ) refl k
         where
-          go : (b : Bool) → permitted ts m σ ≡ b → List·Memᴰ c (cond b (pairWith (holdingTimeOf ts m σ) (leastBudget P ts m σ)) []) → PairOf σ c
+          go : (b : Bool) → permitted v σ ≡ b → List·Memᴰ c (cond b (pairWith (holdingTimeOf v σ) (leastBudget v σ)) []) → PairOf σ c
           go true e q = let h = pairWith-iff _ _ c .0 q in record { held = e; holding = h .0; budget = h .1 }
           go false e q = absurd (List·Memᴰ·not-nil q)
 
-      from : PairOf σ c → List·Memᴰ c (candidateOf P ts m σ)
+      from : PairOf σ c → List·Memᴰ c (candidateOf v σ)
       from h = rw (h .held) (pairWith-iff _ _ c .1 (h .holding, h .budget))
 
-  pairOf-agree : (τ σ : Setting) (c : Pair) → Agree m τ σ → PairOf σ c → PairOf τ c
+  pairOf-agree : (τ σ : Setting) (c : Pair) → Agree (v .locks) τ σ → PairOf σ c → PairOf τ c
   pairOf-agree τ σ c same h = record {
-    held = permitted-agree ts m τ σ same ∙ h .held;
-    holding = holdingTime-agree ts m τ σ same ∙ h .holding;
-    budget = leastBudget-agree P ts m τ σ same ∙ h .budget;
+    held = permitted-agree v τ σ same ∙ h .held;
+    holding = holdingTime-agree v τ σ same ∙ h .holding;
+    budget = leastBudget-agree v τ σ same ∙ h .budget;
   }
 
-  pub candidate-iff : (c : Pair) → List·Memᴰ c (candidatesIn P ts m) ↔ Candidate P ts m c
+  pub candidate-iff : (c : Pair) → List·Memᴰ c (candidatesIn v) ↔ Candidate v c
   unfolding candidatesIn
   candidate-iff c = (to, from)
     where
-      to : List·Memᴰ c (candidatesIn P ts m) → Candidate P ts m c
+      to : List·Memᴰ c (candidatesIn v) → Candidate v c
       to k =
-          let j = joined-map-iff (candidateOf P ts m) c (settings ts m) .0 k in
+          let j = joined-map-iff (candidateOf v) c (settings v) .0 k in
           let h = candidateOf-iff (j .0) c .0 (j .2) in
           record {
             setting = j .0;
-            allowed = record { ranged = settings-ranged ts m (j .0) (j .1); held = h .held };
+            allowed = record { ranged = settings-ranged v (j .0) (j .1); held = h .held };
             holding = h .holding;
             budget = h .budget;
           }
 
-      from : Candidate P ts m c → List·Memᴰ c (candidatesIn P ts m)
+      from : Candidate v c → List·Memᴰ c (candidatesIn v)
       from d =
-          let t = settings-all ts m (d .setting) (d .allowed .ranged) in
+          let t = settings-all v (d .setting) (d .allowed .ranged) in
           let h : PairOf (d .setting) c = record { held = d .allowed .held; holding = d .holding; budget = d .budget } in
-          joined-map-iff (candidateOf P ts m) c (settings ts m) .1 (t .0, t .1, candidateOf-iff (t .0) c .1 (pairOf-agree (t .0) (d .setting) c (t .2) h))
+          joined-map-iff (candidateOf v) c (settings v) .1 (t .0, t .1, candidateOf-iff (t .0) c .1 (pairOf-agree (t .0) (d .setting) c (t .2) h))
 
-  pub kept-iff : (c : Pair) → List·Memᴰ c (keptList P ts m) ↔ IsKept P ts m c
+  pub kept-iff : (c : Pair) → List·Memᴰ c (keptList v) ↔ IsKept v c
   unfolding keptList
   kept-iff c = (to, from)
     where
-      to : List·Memᴰ c (keptList P ts m) → IsKept P ts m c
+      to : List·Memᴰ c (keptList v) → IsKept v c
       to k =
-          let h = keptAmong-iff (candidatesIn P ts m) c .0 k in
+          let h = keptAmong-iff (candidatesIn v) c .0 k in
           record { candidate = candidate-iff c .0 (h .0); alone = λ d q x s. h .1 d (candidate-iff d .1 q) (record { holding = x; sum = s }) }
 
-      from : IsKept P ts m c → List·Memᴰ c (keptList P ts m)
-      from h = keptAmong-iff (candidatesIn P ts m) c .1 (candidate-iff c .1 (h .candidate), λ d q w. h .alone d (candidate-iff d .0 q) (w .holding) (w .sum))
+      from : IsKept v c → List·Memᴰ c (keptList v)
+      from h = keptAmong-iff (candidatesIn v) c .1 (candidate-iff c .1 (h .candidate), λ d q w. h .alone d (candidate-iff d .0 q) (w .holding) (w .sum))
 
-  pub kept-falls : Falling (keptList P ts m)
+  pub kept-falls : Falling (keptList v)
   unfolding keptList
-  kept-falls = keptAmong-falls (candidatesIn P ts m)
+  kept-falls = keptAmong-falls (candidatesIn v)
 
   -- each candidate has a kept pair beside it that is no worse
-  pub kept-beside : (c : Pair) → Candidate P ts m c → Covered (keptList P ts m) c
+  pub kept-beside : (c : Pair) → Candidate v c → Covered (keptList v) c
   unfolding keptList
-  kept-beside c d = keptAmong-covers (candidatesIn P ts m) c (candidate-iff c .1 d)
+  kept-beside c d = keptAmong-covers (candidatesIn v) c (candidate-iff c .1 d)
 
-  none-beside : (c : Pair) → Covered (keptList P ts m) c → keptList P ts m ≡ [] → ⊥
+  none-beside : (c : Pair) → Covered (keptList v) c → keptList v ≡ [] → ⊥
   none-beside c k e = List·Memᴰ·not-nil (subst (List·Memᴰ (k .0)) e (k .1))
 
-  pub kept-empty : (keptList P ts m ≡ []) ↔ ((c : Pair) → Candidate P ts m c → ⊥)
-  kept-empty = ((λ e c d. none-beside c (kept-beside c d) e), λ none. no-member (keptList P ts m) (λ c k. none c (kept-iff c .0 k .candidate)))
+  pub kept-empty : (keptList v ≡ []) ↔ ((c : Pair) → Candidate v c → ⊥)
+  kept-empty = ((λ e c d. none-beside c (kept-beside c d) e), λ none. no-member (keptList v) (λ c k. none c (kept-iff c .0 k .candidate)))
 
   -- a budget that passes under a permitted setting makes a candidate of the least one
-  least-candidate : (σ : Setting) (Q : ℕ) → Permitted ts m σ → 1 ≤ Q → Q ≤ P → passes P ts m σ Q ≡ true → (q : ℕ) × (q ≤ Q) × Candidate P ts m (pair q (holdingTimeOf ts m σ))
+  least-candidate : (σ : Setting) (Q : ℕ) → Permitted v σ → 1 ≤ Q → Q ≤ v .period → passes v σ Q ≡ true → (q : ℕ) × (q ≤ Q) × Candidate v (pair q (holdingTimeOf v σ))
   unfolding leastBudget
   least-candidate σ Q ok a b t =
-      let l = least-upto (passes P ts m σ) P 1 Q a (omega arith) t in
+      let l = least-upto (passes v σ) (v .period) 1 Q a (omega arith) t in
       (l .0, l .3, record { setting = σ; allowed = ok; holding = refl; budget = l .2 })
 
-  pub kept-covers : (σ : Setting) (Q : ℕ) → Permitted ts m σ → 1 ≤ Q → Q ≤ P → passes P ts m σ Q ≡ true → Covered (keptList P ts m) (pair Q (holdingTimeOf ts m σ))
+  pub kept-covers : (σ : Setting) (Q : ℕ) → Permitted v σ → 1 ≤ Q → Q ≤ v .period → passes v σ Q ≡ true → Covered (keptList v) (pair Q (holdingTimeOf v σ))
   kept-covers σ Q ok a b t =
       let l = least-candidate σ Q ok a b t in
-      let k = kept-beside (pair (l .0) (holdingTimeOf ts m σ)) (l .2) in
+      let k = kept-beside (pair (l .0) (holdingTimeOf v σ)) (l .2) in
       (k .0, k .1, record { holding = k .2 .holding; sum = omega (arith, k .2 .sum, l .1) })
 
   -- the same of settings and budgets: no budget passes under any permitted setting
   abbrev pub NothingPasses : Type 0
-  NothingPasses = (σ : Setting) (Q : ℕ) → Permitted ts m σ → 1 ≤ Q → Q ≤ P → passes P ts m σ Q ≡ true → ⊥
+  NothingPasses = (σ : Setting) (Q : ℕ) → Permitted v σ → 1 ≤ Q → Q ≤ v .period → passes v σ Q ≡ true → ⊥
 
-  pub kept-none : (keptList P ts m ≡ []) ↔ NothingPasses
+  pub kept-none : (keptList v ≡ []) ↔ NothingPasses
   unfolding leastBudget
-  kept-none = ((λ e σ Q ok a b t. none-beside (pair Q (holdingTimeOf ts m σ)) (kept-covers σ Q ok a b t) e), λ none. kept-empty .1 (no-candidate none))
+  kept-none = ((λ e σ Q ok a b t. none-beside (pair Q (holdingTimeOf v σ)) (kept-covers σ Q ok a b t) e), λ none. kept-empty .1 (no-candidate none))
     where
-      no-candidate : NothingPasses → (c : Pair) → Candidate P ts m c → ⊥
+      no-candidate : NothingPasses → (c : Pair) → Candidate v c → ⊥
       no-candidate none c d =
-          let l = least-iff (passes P ts m (d .setting)) P (c .budget) .0 (d .budget) in
+          let l = least-iff (passes v (d .setting)) (v .period) (c .budget) .0 (d .budget) in
           none (d .setting) (c .budget) (d .allowed) (l .0 .positive) (l .1) (l .0 .passes)

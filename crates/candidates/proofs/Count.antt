@@ -1,24 +1,29 @@
--- How many different X a part can have: each smaller X raises a ceiling that is shown, so a list of candidates in falling X has at most 1 + m·(n − 1) pairs.
---   raised ts m σ == Σ over the locks of the ceiling above the lock's lowest
---   Used ts m     == every lock has a user
+-- How many different X a part can have: each smaller X raises a ceiling that is shown, so a falling list of X has at most 1 + m·(n − 1) numbers, and a list of
+-- candidates in falling X as many pairs.
+--   raised v σ == Σ over the locks of the ceiling above the lock's lowest
+--   Used v     == every lock has a user
+--   HasX v x   == x is the X of a permitted setting
 -- Assumes nothing.
 use Prim.Native.Nat.{ℕ, _+_, _-_, _*_, _≤_, _<_}
 use native.Mathlib.Nat.{le-of-eq, le-trans, eq-or-lt-of-le, mul-le-mul-right}
 use native.Mathlib.Omega.{arith}
 use mathlib.Core.Path.{_≡_, refl, subst}
 use mathlib.Core.Logic.{_⊎_, inl, inr, ⊎-elim}
-use mathlib.Core.List.{List, [], _∷_, map, List·Memᴰ, List·Memᴰ·head, List·Memᴰ·tail}
-use lib.ListN.{length}
+use mathlib.Core.List.{List, [], _∷_, map, List·Memᴰ, List·Memᴰ·head, List·Memᴰ·tail, Memᴰ·of-map}
+use lib.ListN.{length, length-map}
 use Rattle.least.specs.Lists.{sum, range}
 use Rattle.least.proofs.Round.{product}
 use Rattle.least.proofs.Search.{least-unique}
 use Rattle.least.proofs.Lists.{range-iff}
 use Rattle.least.proofs.Pairwise.{Pairwise, pairwise-map}
 use Rattle.least.proofs.Sums.{sum-rises, sum-most, length-range}
+use Rattle.refusal.specs.Limits.{keptLimit}
 use Rattle.task_set.specs.declared.Task.{Task}
 use Rattle.task_set.specs.Tasks.{lowestCeiling}
+use Rattle.task_set.specs.Partition.{Partition}
 use Rattle.task_set.specs.Blocking.{Setting}
-use Rattle.holding.specs.Holding.{held, HoldingTime, holdingTimeOf}
+use Rattle.holding.specs.Holding.{held, holdingTimeOf}
+use Rattle.holding.specs.Code.Holding.{HoldingTime}
 use Rattle.holding.proofs.Holding.{Ranged, inRange-paper, holding-paper, holdingTime-paper}
 use Rattle.candidates.specs.declared.Pair.{Pair}
 use Rattle.candidates.specs.Candidates.{keptList, shownCeiling}
@@ -31,81 +36,102 @@ use Rattle.candidates.proofs.Walk.{Above, falling-pairwise, WalkedFrom}
 abbrev above : List Task → Setting → ℕ → ℕ
 above ts σ l = σ l - lowestCeiling l ts
 
-unfoldable pub raised : List Task → ℕ → Setting → ℕ
-raised ts m σ = sum (map (λ l. σ l - lowestCeiling l ts) (range 1 m))
+unfoldable pub raised : Partition → Setting → ℕ
+raised v σ = sum (map (λ l. σ l - lowestCeiling l (v .tasks)) (range 1 (v .locks)))
 
-abbrev pub Used : List Task → ℕ → Type 0
-Used ts m = (l : ℕ) → 1 ≤ l → l ≤ m → 1 ≤ lowestCeiling l ts
+abbrev pub Used : Partition → Type 0
+Used v = (l : ℕ) → 1 ≤ l → l ≤ v .locks → 1 ≤ lowestCeiling l (v .tasks)
 
-pub raised-most : (ts : List Task) (m : ℕ) (σ : Setting) → Used ts m → Ranged ts m σ → raised ts m σ ≤ m * (length ts - 1)
+pub raised-most : (v : Partition) (σ : Setting) → Used v → Ranged v σ → raised v σ ≤ (v .locks) * (length (v .tasks) - 1)
 unfolding raised
-raised-most ts m σ used in-range = le-trans most (mul-le-mul-right (length ts - 1) (omega (arith, length-range 1 m)))
+raised-most v σ used in-range = le-trans most (mul-le-mul-right (length (v .tasks) - 1) (omega (arith, length-range 1 (v .locks))))
   where
-    each : (l : ℕ) → List·Memᴰ l (range 1 m) → above ts σ l ≤ length ts - 1
-    each l k = let r = range-iff 1 m l .0 k in omega (arith, used l (r .0) (r .1), in-range l (r .0) (r .1) .1)
+    each : (l : ℕ) → List·Memᴰ l (range 1 (v .locks)) → above (v .tasks) σ l ≤ length (v .tasks) - 1
+    each l k = let r = range-iff 1 (v .locks) l .0 k in omega (arith, used l (r .0) (r .1), in-range l (r .0) (r .1) .1)
 
-    most : sum (map (above ts σ) (range 1 m)) ≤ length (range 1 m) * (length ts - 1)
-    most = sum-most (above ts σ) (length ts - 1) (range 1 m) each
+    most : sum (map (above (v .tasks) σ) (range 1 (v .locks))) ≤ length (range 1 (v .locks)) * (length (v .tasks) - 1)
+    most = sum-most (above (v .tasks) σ) (length (v .tasks) - 1) (range 1 (v .locks)) each
 
 -- a permitted setting with X ≤ y, and ceilings shown for a greater x whose X is greater than y: these are less raised
-module _ (ts : List Task) (m x y : ℕ) (σ : Setting) (h : y ≤ x) (ok : Permitted ts m σ) (u : holdingTimeOf ts m σ ≤ y) (more : y < holdingTimeOf ts m (shownCeiling ts x)) where
-  shown-beside : (l : ℕ) → 1 ≤ l → l ≤ m → Within ts x l (shownCeiling ts x l) × (shownCeiling ts x l ≤ σ l)
-  shown-beside = shown-under ts m x σ ok (le-trans u h)
+module _ (v : Partition) (x y : ℕ) (σ : Setting) (h : y ≤ x) (ok : Permitted v σ) (u : holdingTimeOf v σ ≤ y) (more : y < holdingTimeOf v (shownCeiling v x)) where
+  shown-beside : (l : ℕ) → 1 ≤ l → l ≤ v .locks → Within v x l (shownCeiling v x l) × (shownCeiling v x l ≤ σ l)
+  shown-beside = shown-under v x σ ok (le-trans u h)
 
   -- the lock that is held longest under the ceilings shown for x has a lower one there
-  lower-there : (l : ℕ) → 1 ≤ l → l ≤ m → HoldingTime ts l (shownCeiling ts x l) (holdingTimeOf ts m (shownCeiling ts x)) → shownCeiling ts x l < σ l
+  lower-there : (l : ℕ) → 1 ≤ l → l ≤ v .locks → HoldingTime (v .tasks) l (shownCeiling v x l) (holdingTimeOf v (shownCeiling v x)) → shownCeiling v x l < σ l
   lower-there l a b t = go (eq-or-lt-of-le (shown-beside l a b .1))
     where
-      go : (shownCeiling ts x l ≡ σ l) ⊎ (shownCeiling ts x l < σ l) → shownCeiling ts x l < σ l
+      go : (shownCeiling v x l ≡ σ l) ⊎ (shownCeiling v x l < σ l) → shownCeiling v x l < σ l
       go (inl e) =
-          let k = permitted-within ts m y σ ok u l a b in
-          absurd (omega (arith, k .most, least-unique (held ts l (σ l)) _ (k .time) (subst (λ (r : ℕ). HoldingTime ts l r (holdingTimeOf ts m (shownCeiling ts x))) e t) (holding-paper ts l (σ l) (k .time) .0 (k .is) .0)))
+          let k = permitted-within v y σ ok u l a b in
+          absurd (omega (arith, k .most, least-unique (held (v .tasks) l (σ l)) _ (k .time) (subst (λ (r : ℕ). HoldingTime (v .tasks) l r (holdingTimeOf v (shownCeiling v x))) e t) (holding-paper (v .tasks) l (σ l) (k .time) .0 (k .is) .0)))
       go (inr q) = q
 
-  pub raised-rises : raised ts m (shownCeiling ts x) < raised ts m σ
+  pub raised-rises : raised v (shownCeiling v x) < raised v σ
   unfolding raised
-  raised-rises = ⊎-elim (λ z. absurd (omega (arith, z .1))) rises (holdingTime-paper ts m (shownCeiling ts x) (shown-permitted ts m x σ ok (le-trans u h) .held) .one)
+  raised-rises = ⊎-elim (λ z. absurd (omega (arith, z .1))) rises (holdingTime-paper v (shownCeiling v x) (shown-permitted v x σ ok (le-trans u h) .held) .one)
     where
-      each : (l : ℕ) → List·Memᴰ l (range 1 m) → above ts (shownCeiling ts x) l ≤ above ts σ l
-      each l k = let r = range-iff 1 m l .0 k in omega (arith, shown-beside l (r .0) (r .1) .1)
+      each : (l : ℕ) → List·Memᴰ l (range 1 (v .locks)) → above (v .tasks) (shownCeiling v x) l ≤ above (v .tasks) σ l
+      each l k = let r = range-iff 1 (v .locks) l .0 k in omega (arith, shown-beside l (r .0) (r .1) .1)
 
-      rises : (l : ℕ) × (1 ≤ l) × (l ≤ m) × HoldingTime ts l (shownCeiling ts x l) (holdingTimeOf ts m (shownCeiling ts x)) → sum (map (above ts (shownCeiling ts x)) (range 1 m)) < sum (map (above ts σ) (range 1 m))
+      rises : (l : ℕ) × (1 ≤ l) × (l ≤ v .locks) × HoldingTime (v .tasks) l (shownCeiling v x l) (holdingTimeOf v (shownCeiling v x)) → sum (map (above (v .tasks) (shownCeiling v x)) (range 1 (v .locks))) < sum (map (above (v .tasks) σ) (range 1 (v .locks)))
       rises (l, a, b, t) =
-          sum-rises (above ts (shownCeiling ts x)) (above ts σ) (range 1 m) each l (range-iff 1 m l .1 (a, b)) (omega (arith, shown-beside l a b .0 .low, lower-there l a b t))
+          sum-rises (above (v .tasks) (shownCeiling v x)) (above (v .tasks) σ) (range 1 (v .locks)) each l (range-iff 1 (v .locks) l .1 (a, b)) (omega (arith, shown-beside l a b .0 .low, lower-there l a b t))
 
-module _ (P : ℕ) (ts : List Task) (m : ℕ) where
-  raised-next : (c d : Pair) → Candidate P ts m c → Candidate P ts m d → d .holding < c .holding → raised ts m (shownCeiling ts (c .holding)) < raised ts m (shownCeiling ts (d .holding))
-  raised-next c d p q l =
-      let ok = shown-permitted ts m (d .holding) (q .setting) (q .allowed) (le-of-eq (q .holding)) in
-      let u = shown-holding ts m (d .holding) (q .setting) (q .allowed) (le-of-eq (q .holding)) in
-      let e = shown-exact ts m (c .holding) (p .setting) (p .allowed) (le-of-eq (p .holding)) (p .holding) in
-      raised-rises ts m (c .holding) (d .holding) (shownCeiling ts (d .holding)) (omega arith) ok u (omega arith)
+-- x is the X of a permitted setting
+pub record HasX (v : Partition) (x : ℕ) : Type 0 where
+  pub setting : Setting
+  pub allowed : Permitted v setting
+  pub holding : holdingTimeOf v setting ≡ x
 
-  raised-candidate : (c : Pair) → Used ts m → Candidate P ts m c → raised ts m (shownCeiling ts (c .holding)) ≤ m * (length ts - 1)
-  raised-candidate c used q =
-      raised-most ts m _ used (inRange-paper ts m _ .0 (shown-permitted ts m (c .holding) (q .setting) (q .allowed) (le-of-eq (q .holding)) .ranged))
+pub candidate-has-x : {v : Partition} (c : Pair) → Candidate v c → HasX v (c .holding)
+candidate-has-x c q = record { setting = q .setting; allowed = q .allowed; holding = q .holding }
 
-  -- a list of candidates in falling X
-  module _ (used : Used ts m) where
-    count-raised : (c : Pair) (cs : List Pair) → Pairwise Above (c ∷ cs) → ((d : Pair) → List·Memᴰ d (c ∷ cs) → Candidate P ts m d) → length cs + raised ts m (shownCeiling ts (c .holding)) ≤ m * (length ts - 1)
-    count-raised c [] p all = omega (arith, raised-candidate c used (all c (List·Memᴰ·head refl)))
-    count-raised c (d ∷ ds) (Pairwise.more h p) all =
-        let k : List·Memᴰ d (c ∷ d ∷ ds) = List·Memᴰ·tail (List·Memᴰ·head refl) in
-        omega (arith, raised-next c d (all c (List·Memᴰ·head refl)) (all d k) (h d (List·Memᴰ·head refl)), count-raised d ds p (λ e j. all e (List·Memᴰ·tail j)))
+module _ (v : Partition) where
+  raised-next : (x y : ℕ) → HasX v x → HasX v y → y < x → raised v (shownCeiling v x) < raised v (shownCeiling v y)
+  raised-next x y p q l =
+      let ok = shown-permitted v y (q .setting) (q .allowed) (le-of-eq (q .holding)) in
+      let u = shown-holding v y (q .setting) (q .allowed) (le-of-eq (q .holding)) in
+      let e = shown-exact v x (p .setting) (p .allowed) (le-of-eq (p .holding)) (p .holding) in
+      raised-rises v x y (shownCeiling v y) (omega arith) ok u (omega arith)
 
-    pub candidates-count : (cs : List Pair) → Pairwise Above cs → ((d : Pair) → List·Memᴰ d cs → Candidate P ts m d) → length cs ≤ 1 + m * (length ts - 1)
-    candidates-count [] p all = omega arith
-    candidates-count (c ∷ cs) p all = omega (arith, count-raised c cs p all)
+  raised-x : (x : ℕ) → Used v → HasX v x → raised v (shownCeiling v x) ≤ v .locks * (length (v .tasks) - 1)
+  raised-x x used q =
+      raised-most v _ used (inRange-paper v _ .0 (shown-permitted v x (q .setting) (q .allowed) (le-of-eq (q .holding)) .ranged))
 
-    pub walked-count : (e : ℕ) (cs : List Pair) → WalkedFrom P ts m e cs → length cs ≤ 1 + m * (length ts - 1)
+  module _ (used : Used v) where
+    -- a falling list of X
+    count-raised : (x : ℕ) (xs : List ℕ) → Pairwise (λ x y. y < x) (x ∷ xs) → ((y : ℕ) → List·Memᴰ y (x ∷ xs) → HasX v y) → length xs + raised v (shownCeiling v x) ≤ v .locks * (length (v .tasks) - 1)
+    count-raised x [] p all = omega (arith, raised-x x used (all x (List·Memᴰ·head refl)))
+    count-raised x (y ∷ ys) (Pairwise.more h p) all =
+        let k : List·Memᴰ y (x ∷ y ∷ ys) = List·Memᴰ·tail (List·Memᴰ·head refl) in
+        omega (arith, raised-next x y (all x (List·Memᴰ·head refl)) (all y k) (h y (List·Memᴰ·head refl)), count-raised y ys p (λ z j. all z (List·Memᴰ·tail j)))
+
+    pub x-count : (xs : List ℕ) → Pairwise (λ x y. y < x) xs → ((y : ℕ) → List·Memᴰ y xs → HasX v y) → length xs ≤ 1 + v .locks * (length (v .tasks) - 1)
+    x-count [] p all = omega arith
+    x-count (x ∷ xs) p all = omega (arith, count-raised x xs p all)
+
+    -- so of candidates in falling X
+    abbrev holdings : List Pair → List ℕ
+    holdings cs = map (λ c. c .holding) cs
+
+    falling-holdings : {cs : List Pair} → Pairwise Above cs → Pairwise (λ x y. y < x) (holdings cs)
+    falling-holdings Pairwise.none = Pairwise.none
+    falling-holdings (Pairwise.more {x = c} {xs = cs} h p) = Pairwise.more {x = c .holding} (λ y k. let d = Memᴰ·of-map (λ (c : Pair). c .holding) cs k in omega (arith, d .2, h (d .0) (d .1))) (falling-holdings p)
+
+    pub candidates-count : (cs : List Pair) → Pairwise Above cs → ((d : Pair) → List·Memᴰ d cs → Candidate v d) → length cs ≤ 1 + v .locks * (length (v .tasks) - 1)
+    candidates-count cs p all =
+        omega (arith, length-map cs (λ c. c .holding), x-count (holdings cs) (falling-holdings p) (λ y k. let d = Memᴰ·of-map (λ (c : Pair). c .holding) cs k in subst (HasX v) (d .2) (candidate-has-x (d .0) (all (d .0) (d .1)))))
+
+    pub walked-count : (e : ℕ) (cs : List Pair) → WalkedFrom v e cs → length cs ≤ 1 + v .locks * (length (v .tasks) - 1)
     walked-count e cs w = candidates-count cs (pairwise-map (λ c d k j b. b .holding) (w .ordered)) (w .candidates)
 
-    pub kept-count : length (keptList P ts m) ≤ 1 + m * (length ts - 1)
-    kept-count = candidates-count (keptList P ts m) (falling-pairwise (kept-falls P ts m)) (λ c k. kept-iff P ts m c .0 k .candidate)
+    pub kept-count : length (keptList v) ≤ 1 + v .locks * (length (v .tasks) - 1)
+    kept-count = candidates-count (keptList v) (falling-pairwise (kept-falls v)) (λ c k. kept-iff v c .0 k .candidate)
 
 -- eight locks and sixteen tasks at most
-pub count-121 : (m n : ℕ) → m ≤ 8 → n ≤ 16 → 1 + m * (n - 1) ≤ 121
+pub count-121 : (m n : ℕ) → m ≤ 8 → n ≤ 16 → 1 + m * (n - 1) ≤ keptLimit
 count-121 m n a b = let h : n - 1 ≤ 15 = omega arith in omega (arith, product 8 15 a h)
 
-pub kept-121 : (P : ℕ) (ts : List Task) (m : ℕ) → Used ts m → m ≤ 8 → length ts ≤ 16 → length (keptList P ts m) ≤ 121
-kept-121 P ts m used a b = le-trans (kept-count P ts m used) (count-121 m (length ts) a b)
+pub kept-121 : (v : Partition) → Used v → v .locks ≤ 8 → length (v .tasks) ≤ 16 → length (keptList v) ≤ keptLimit
+kept-121 v used a b = le-trans (kept-count v used) (count-121 (v .locks) (length (v .tasks)) a b)

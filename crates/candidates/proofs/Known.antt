@@ -1,6 +1,6 @@
 -- The ceiling shown for a lock at x, from the one shown at a greater x: the search goes on from there.
---   shownAt ts x l   == the ceiling shown for lock l at x, with its holding time
---   Known ts y l c w == c is shown for lock l at y, held for w; or nothing is known of it yet, and c is its lowest ceiling
+--   shownAt v x l   == the ceiling shown for lock l at x, with its holding time
+--   Known v y l c w == c is shown for lock l at y, held for w; or nothing is known of it yet, and c is its lowest ceiling
 -- Assumes nothing.
 use Prim.Native.Nat.{ℕ, suc, _+_, _-_, _≤_, _<_}
 use native.Mathlib.Omega.{arith}
@@ -19,19 +19,20 @@ use Rattle.least.proofs.Search.{NoneIn, none-next, least-at, least-found, least
 use Rattle.refusal.specs.Limits.{numberLimit}
 use Rattle.task_set.specs.declared.Task.{Task}
 use Rattle.task_set.specs.Tasks.{demandIn, lowestCeiling, greatestHeld, smallestDeadline}
+use Rattle.task_set.specs.Partition.{Partition}
 use Rattle.holding.specs.declared.Ceiling.{Ceiling}
 use Rattle.holding.specs.declared.Ceiling.the-variants.{Held, NotHeld}
 use Rattle.holding.specs.Holding.{held, holdingOf, within}
-use Rattle.holding.specs.Code.{holdUpTo, withTime, lowestHeld}
+use Rattle.holding.specs.Code.Search.{holdUpTo, withTime, lowestHeld}
 use Rattle.holding.proofs.Holding.{holding-paper}
-use Rattle.candidates.specs.Code.{nextCeiling}
+use Rattle.raising.specs.Code.Raising.{nextCeiling}
 use Rattle.candidates.proofs.Shown.{within-iff, lowestWithin}
 
-abbrev pub shownAt : List Task → ℕ → ℕ → Ceiling
-shownAt ts x l = lowestHeld ts (greatestHeld l ts) (smallestDeadline l ts) x (lowestCeiling l ts)
+abbrev pub shownAt : Partition → ℕ → ℕ → Ceiling
+shownAt v x l = lowestHeld (v .tasks) (greatestHeld l (v .tasks)) (smallestDeadline l (v .tasks)) x (lowestCeiling l (v .tasks))
 
-abbrev pub Known : List Task → ℕ → ℕ → ℕ → ℕ → Type 0
-Known ts y l c w = ((numberLimit < w) × (c ≡ lowestCeiling l ts)) ⊎ (shownAt ts y l ≡ Held c w)
+abbrev pub Known : Partition → ℕ → ℕ → ℕ → ℕ → Type 0
+Known v y l c w = ((numberLimit < w) × (c ≡ lowestCeiling l (v .tasks))) ⊎ (shownAt v y l ≡ Held c w)
 
 -- tasks that ask for the same have the same holding times
 module _ (ts us : List Task) (same : (r w : ℕ) → demandIn (drop r ts) w ≡ demandIn (drop r us) w) (count : length ts ≡ length us) where
@@ -59,83 +60,83 @@ unfolding holdUpTo holdingOf held
 hold-is ts l r = refl
 
 -- what is shown for lock l at x
-module _ (ts : List Task) (x l : ℕ) where
-  pub shown-within : shownAt ts x l ≡ withTime ts (greatestHeld l ts) (smallestDeadline l ts) (lowestWithin ts x l)
+module _ (v : Partition) (x l : ℕ) where
+  pub shown-within : shownAt v x l ≡ withTime (v .tasks) (greatestHeld l (v .tasks)) (smallestDeadline l (v .tasks)) (lowestWithin v x l)
   unfolding lowestHeld holdingOf held holdUpTo
   shown-within = refl
 
-  pub shown-missed : shownAt ts x l ≡ NotHeld → lowestWithin ts x l ≡ Nothing
-  shown-missed e = go (lowestWithin ts x l) refl
+  pub shown-missed : shownAt v x l ≡ NotHeld → lowestWithin v x l ≡ Nothing
+  shown-missed e = go (lowestWithin v x l) refl
     where
-      go : (a : Least) → lowestWithin ts x l ≡ a → lowestWithin ts x l ≡ Nothing
-      go (At r) q = let h = sym e ∙ shown-within ∙ ap (withTime ts (greatestHeld l ts) (smallestDeadline l ts)) q in let z : _≡_ {A = ℕ} 0 1 = cc h in absurd (omega arith)
+      go : (a : Least) → lowestWithin v x l ≡ a → lowestWithin v x l ≡ Nothing
+      go (At r) q = let h = sym e ∙ shown-within ∙ ap (withTime (v .tasks) (greatestHeld l (v .tasks)) (smallestDeadline l (v .tasks))) q in let z : _≡_ {A = ℕ} 0 1 = cc h in absurd (omega arith)
       go Nothing q = q
 
   -- c is the lowest ceiling that is held for at most x, and it is held for w
   pub record Shows (c w : ℕ) : Type 0 where
-    pub lowest : lowestWithin ts x l ≡ At c
-    pub time : holdingOf ts l c ≡ At w
+    pub lowest : lowestWithin v x l ≡ At c
+    pub time : holdingOf (v .tasks) l c ≡ At w
     pub most : w ≤ x
 
-  pub shown-held : (c w : ℕ) → shownAt ts x l ≡ Held c w → Shows c w
+  pub shown-held : (c w : ℕ) → shownAt v x l ≡ Held c w → Shows c w
   unfolding numberOr0
-  shown-held c w e = go (lowestWithin ts x l) refl
+  shown-held c w e = go (lowestWithin v x l) refl
     where
-      go : (a : Least) → lowestWithin ts x l ≡ a → Shows c w
-      go Nothing q = let h = sym e ∙ shown-within ∙ ap (withTime ts (greatestHeld l ts) (smallestDeadline l ts)) q in let z : _≡_ {A = ℕ} 0 1 = cc h in absurd (omega arith)
+      go : (a : Least) → lowestWithin v x l ≡ a → Shows c w
+      go Nothing q = let h = sym e ∙ shown-within ∙ ap (withTime (v .tasks) (greatestHeld l (v .tasks)) (smallestDeadline l (v .tasks))) q in let z : _≡_ {A = ℕ} 0 1 = cc h in absurd (omega arith)
       go (At r) q =
           let f = least-found _ _ _ r q in
-          let t = within-iff x (holdingOf ts l r) .0 (f .passes) in
-          let n : numberOr0 (holdUpTo ts (greatestHeld l ts) r (smallestDeadline l ts)) ≡ t .0 = ap numberOr0 (hold-is ts l r ∙ t .1) in
-          let h = sym e ∙ shown-within ∙ ap (withTime ts (greatestHeld l ts) (smallestDeadline l ts)) q in
+          let t = within-iff x (holdingOf (v .tasks) l r) .0 (f .passes) in
+          let n : numberOr0 (holdUpTo (v .tasks) (greatestHeld l (v .tasks)) r (smallestDeadline l (v .tasks))) ≡ t .0 = ap numberOr0 (hold-is (v .tasks) l r ∙ t .1) in
+          let h = sym e ∙ shown-within ∙ ap (withTime (v .tasks) (greatestHeld l (v .tasks)) (smallestDeadline l (v .tasks))) q in
           let rc : c ≡ r = cc h in
           let wt : w ≡ t .0 = cc (h, n) in
           rw (rc, wt) (record { lowest = q; time = t .1; most = t .2 })
 
-  pub shows-shown : (c w : ℕ) → Shows c w → shownAt ts x l ≡ Held c w
+  pub shows-shown : (c w : ℕ) → Shows c w → shownAt v x l ≡ Held c w
   unfolding numberOr0
-  shows-shown c w s = shown-within ∙ ap (withTime ts (greatestHeld l ts) (smallestDeadline l ts)) (s .lowest) ∙ ap (λ (a : Least). Held c (numberOr0 a)) (hold-is ts l c ∙ s .time)
+  shows-shown c w s = shown-within ∙ ap (withTime (v .tasks) (greatestHeld l (v .tasks)) (smallestDeadline l (v .tasks))) (s .lowest) ∙ ap (λ (a : Least). Held c (numberOr0 a)) (hold-is (v .tasks) l c ∙ s .time)
 
 -- at a smaller x no more is within
 within-less : (x y : ℕ) → x ≤ y → (a : Least) → within y a ≡ false → within x a ≡ false
 within-less x y h (At w) e = lt-leb w x (omega (arith, leb-false w y e))
 within-less x y h Nothing e = refl
 
-module _ (ts : List Task) (x y l c w : ℕ) (h : x ≤ y) (s : Shows ts y l c w) where
+module _ (v : Partition) (x y l c w : ℕ) (h : x ≤ y) (s : Shows v y l c w) where
   abbrev test : ℕ → ℕ → Bool
-  test z r = within z (holdingOf ts l r)
+  test z r = within z (holdingOf (v .tasks) l r)
 
-  none-before : NoneIn (test x) (lowestCeiling l ts) c
-  none-before r a b = within-less x y h (holdingOf ts l r) (least-found _ _ _ c (s .lowest) .before r a b)
+  none-before : NoneIn (test x) (lowestCeiling l (v .tasks)) c
+  none-before r a b = within-less x y h (holdingOf (v .tasks) l r) (least-found _ _ _ c (s .lowest) .before r a b)
 
   -- it stays where it is held for at most x
-  pub still-shown : w ≤ x → Shows ts x l c w
+  pub still-shown : w ≤ x → Shows v x l c w
   still-shown m =
       let f = least-found _ _ _ c (s .lowest) in
-      record { lowest = least-at (test x) _ _ c (record { from = f .from; below = f .below; passes = within-iff x (holdingOf ts l c) .1 (w, s .time, m); before = none-before }); time = s .time; most = m }
+      record { lowest = least-at (test x) _ _ c (record { from = f .from; below = f .below; passes = within-iff x (holdingOf (v .tasks) l c) .1 (w, s .time, m); before = none-before }); time = s .time; most = m }
 
   -- else the search goes on behind it
-  pub shown-later : x < w → shownAt ts x l ≡ lowestHeld ts (greatestHeld l ts) (smallestDeadline l ts) x (c + 1)
+  pub shown-later : x < w → shownAt v x l ≡ lowestHeld (v .tasks) (greatestHeld l (v .tasks)) (smallestDeadline l (v .tasks)) x (c + 1)
   unfolding lowestHeld holdingOf held holdUpTo
   shown-later m =
       let f = least-found _ _ _ c (s .lowest) in
       let here : test x c ≡ false = ap (within x) (s .time) ∙ lt-leb w x m in
-      let rest : lowestCeiling l ts + (suc (length ts) - lowestCeiling l ts) - (c + 1) ≡ suc (length ts) - (c + 1) = omega (arith, f .from, f .below) in
-      ap (withTime ts (greatestHeld l ts) (smallestDeadline l ts))
-      (least-skip (test x) (suc (length ts) - lowestCeiling l ts) (lowestCeiling l ts) (c + 1) (omega (arith, f .from)) (omega (arith, f .below)) (none-next (test x) (lowestCeiling l ts) c none-before here)
+      let rest : lowestCeiling l (v .tasks) + (suc (length (v .tasks)) - lowestCeiling l (v .tasks)) - (c + 1) ≡ suc (length (v .tasks)) - (c + 1) = omega (arith, f .from, f .below) in
+      ap (withTime (v .tasks) (greatestHeld l (v .tasks)) (smallestDeadline l (v .tasks)))
+      (least-skip (test x) (suc (length (v .tasks)) - lowestCeiling l (v .tasks)) (lowestCeiling l (v .tasks)) (c + 1) (omega (arith, f .from)) (omega (arith, f .below)) (none-next (test x) (lowestCeiling l (v .tasks)) c none-before here)
       ∙ ap (leastFrom (test x) (c + 1)) rest)
 
 -- the next ceiling is the one shown at x
-pub next-shown : (ts : List Task) (x y l c w : ℕ) → x ≤ y → x ≤ numberLimit → smallestDeadline l ts ≤ numberLimit → Known ts y l c w → nextCeiling ts (greatestHeld l ts) (smallestDeadline l ts) c w x ≡ shownAt ts x l
+pub next-shown : (v : Partition) (x y l c w : ℕ) → x ≤ y → x ≤ numberLimit → smallestDeadline l (v .tasks) ≤ numberLimit → Known v y l c w → nextCeiling (v .tasks) (greatestHeld l (v .tasks)) (smallestDeadline l (v .tasks)) c w x ≡ shownAt v x l
 unfolding nextCeiling
-next-shown ts x y l c w h b d (inl (u, e)) = rw e (simp (lt-leb w x (omega arith), lt-leb w numberLimit u))
-next-shown ts x y l c w h b d (inr e) = go (decLe w x)
+next-shown v x y l c w h b d (inl (u, e)) = rw e (simp (lt-leb w x (omega arith), lt-leb w numberLimit u))
+next-shown v x y l c w h b d (inr e) = go (decLe w x)
   where
-    s : Shows ts y l c w
-    s = shown-held ts y l c w e
+    s : Shows v y l c w
+    s = shown-held v y l c w e
 
-    go : Dec (w ≤ x) → nextCeiling ts (greatestHeld l ts) (smallestDeadline l ts) c w x ≡ shownAt ts x l
-    go (yes m) = simp (le-leb w x m) (sym (shows-shown ts x l c w (still-shown ts x y l c w h s m)))
+    go : Dec (w ≤ x) → nextCeiling (v .tasks) (greatestHeld l (v .tasks)) (smallestDeadline l (v .tasks)) c w x ≡ shownAt v x l
+    go (yes m) = simp (le-leb w x m) (sym (shows-shown v x l c w (still-shown v x y l c w h s m)))
     go (no m) =
-        let most = holding-paper ts l c w .0 (s .time) .1 in
-        simp (lt-leb w x (omega arith), le-leb w numberLimit (omega arith)) (sym (shown-later ts x y l c w h s (omega arith)))
+        let most = holding-paper (v .tasks) l c w .0 (s .time) .1 in
+        simp (lt-leb w x (omega arith), le-leb w numberLimit (omega arith)) (sym (shown-later v x y l c w h s (omega arith)))

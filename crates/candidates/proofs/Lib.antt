@@ -5,7 +5,6 @@ pub mod Candidates
 pub mod Shown
 pub mod Walk
 pub mod Count
-pub mod Raising
 pub mod Known
 pub mod Settle
 pub mod Pairs

@@ -13,10 +13,11 @@ use Rattle.least.proofs.Lists.{count-from, count-to, map-same}
 use Rattle.least.proofs.Sums.{length-count}
 use Rattle.least.proofs.Pad.{pad-none, set-pad}
 use Rattle.least.proofs.Pairwise.{Pairwise, pairwise-front}
+use Rattle.refusal.specs.Limits.{keptLimit}
 use Rattle.candidates.specs.declared.Pair.{Pair}
 use Rattle.candidates.specs.declared.Kept.{Kept}
 use Rattle.candidates.specs.Candidates.{pair, keptAnswer}
-use Rattle.candidates.specs.Code.{pairAt, pairsOf, LighterIs}
+use Rattle.candidates.specs.Code.KeptSearch.{pairAt, pairsOf, LighterIs}
 use Rattle.candidates.proofs.Walk.{Behind, lighter, lighter-none, lighter-drop, lighter-keep, pushed}
 
 -- one number more at the end
@@ -65,17 +66,17 @@ module _ (budgets holdings : List ℕ) where
           rw (pairs-next n) (ih (pairwise-front front _ ordered) rest ∙ sym (lighter-drop s front (pairAt budgets holdings n) (l .behind n less (omega arith))))
 
   -- the array of a kept list, filled from the front
-  pub kept-start : replicate 121 (pair 0 0) ≡ pad 121 (pair 0 0) (pairsOf budgets holdings 0)
-  kept-start = pad-none 121 (pair 0 0) ∙ ap (pad 121 (pair 0 0)) (sym pairs-none)
+  pub kept-start : replicate keptLimit (pair 0 0) ≡ pad keptLimit (pair 0 0) (pairsOf budgets holdings 0)
+  kept-start = pad-none keptLimit (pair 0 0) ∙ ap (pad keptLimit (pair 0 0)) (sym pairs-none)
 
-  pub kept-step : (pairs : List Pair) (i : ℕ) → i < 121 → pairs ≡ pad 121 (pair 0 0) (pairsOf budgets holdings i) → set pairs i (pairAt budgets holdings i) ≡ pad 121 (pair 0 0) (pairsOf budgets holdings (i + 1))
+  pub kept-step : (pairs : List Pair) (i : ℕ) → i < keptLimit → pairs ≡ pad keptLimit (pair 0 0) (pairsOf budgets holdings i) → set pairs i (pairAt budgets holdings i) ≡ pad keptLimit (pair 0 0) (pairsOf budgets holdings (i + 1))
   kept-step pairs i h e =
-      rw (e, add-one) (ap (λ (k : ℕ). set (pad 121 (pair 0 0) (pairsOf budgets holdings i)) k (pairAt budgets holdings i)) (sym (pairs-length i)) ∙ set-pad 121 (pair 0 0) (pairsOf budgets holdings i) (pairAt budgets holdings i) (omega (arith, pairs-length i)) ∙ ap (pad 121 (pair 0 0)) (sym (pairs-next i)))
+      rw (e, add-one) (ap (λ (k : ℕ). set (pad keptLimit (pair 0 0) (pairsOf budgets holdings i)) k (pairAt budgets holdings i)) (sym (pairs-length i)) ∙ set-pad keptLimit (pair 0 0) (pairsOf budgets holdings i) (pairAt budgets holdings i) (omega (arith, pairs-length i)) ∙ ap (pad keptLimit (pair 0 0)) (sym (pairs-next i)))
 
-  pub kept-end : (pairs : List Pair) (i n : ℕ) → i ≡ n → pairs ≡ pad 121 (pair 0 0) (pairsOf budgets holdings i) → _≡_ {A = Kept} (record { pairs = pairs; count = n }) (keptAnswer (pairsOf budgets holdings n))
+  pub kept-end : (pairs : List Pair) (i n : ℕ) → i ≡ n → pairs ≡ pad keptLimit (pair 0 0) (pairsOf budgets holdings i) → _≡_ {A = Kept} (record { pairs = pairs; count = n }) (keptAnswer (pairsOf budgets holdings n))
   unfolding keptAnswer
   kept-end pairs i n q e =
-      ap₂ (λ (ps : List Pair) (k : ℕ). record { pairs = ps; count = k }) (e ∙ ap (λ (k : ℕ). pad 121 (pair 0 0) (pairsOf budgets holdings k)) q) (sym (pairs-length n))
+      ap₂ (λ (ps : List Pair) (k : ℕ). record { pairs = ps; count = k }) (e ∙ ap (λ (k : ℕ). pad keptLimit (pair 0 0) (pairsOf budgets holdings k)) q) (sym (pairs-length n))
 
 module _ (budgets holdings : List ℕ) where
   -- a pair stored behind the first r; what stands before it is as it was

@@ -1,6 +1,6 @@
 -- A setting under which some budget passes is permitted: at the time at which the user of a lock with the smallest deadline passes, the lock is free.
 -- Assumes nothing.
-use Prim.Native.Nat.{ℕ, zero, suc, _+_, _-_, _*_, max, _≤_, _<_}
+use Prim.Native.Nat.{ℕ, zero, suc, _+_, _-_, _≤_, _<_}
 use native.Mathlib.Nat.{le-refl, le-trans, mul-le-mul-right, one-mul}
 use native.Mathlib.Omega.{arith}
 use native.Mathlib.Decide.{decLt}
@@ -10,9 +10,8 @@ use mathlib.Core.Logic.{⊎-elim}
 use mathlib.Core.List.{List, [], _∷_, reverse, List·Memᴰ}
 use lib.ListN.{length, take, drop, getD, length-reverse}
 use lib.Seq.{drop-cons, getD-take, length-take-le}
-use borrow.Author.Tests.{le-leb, leb-true}
+use borrow.Author.Tests.{le-leb}
 use Rattle.least.specs.Lists.{sum, greatest, numbersFrom}
-use Rattle.least.specs.Round.{ceilDiv}
 use Rattle.least.proofs.Round.{ceil-pos}
 use Rattle.least.proofs.Search.{least-upto}
 use Rattle.least.proofs.Numbers.{numbers-pass, numbers-fail}
@@ -21,9 +20,10 @@ use Rattle.least.proofs.Greatest.{greatest-reached}
 use Rattle.supply.proofs.SupplyLaws.{supply-le-t}
 use Rattle.task_set.specs.declared.Task.{Task}
 use Rattle.task_set.specs.Tasks.{heldFor, uses, demandIn, lowestCeiling, greatestHeld, smallestDeadline}
+use Rattle.task_set.specs.Partition.{Partition}
 use Rattle.task_set.specs.Blocking.{Setting, blockingOf, needOf}
-use Rattle.task_set.specs.Fine.{blankTask}
-use Rattle.task_set.proofs.Blocking.{Reaches, blocking-paper}
+use Rattle.task_set.specs.Code.Fine.{blankTask}
+use Rattle.task_set.proofs.Blocking.{blocking-paper}
 use Rattle.task_set.proofs.Demand.{demand-drop}
 use Rattle.holding.specs.Holding.{held, holdingOf}
 use Rattle.holding.proofs.Holding.{Ranged, InTime, smallest-paper, held-paper, inRange-paper, holding-paper, permitted-paper}
@@ -66,59 +66,59 @@ demand-asks ts t j o h s =
     rw (drop-cons ts j blankTask h)
     (omega (arith, mul-le-mul-right (getD ts j blankTask .cost) (ceil-pos t (getD ts j blankTask .separation) s o), one-mul (getD ts j blankTask .cost)))
 
-module _ (P : ℕ) (ts : List Task) (m : ℕ) (σ : Setting) (Q : ℕ)
-    (apart : (j : ℕ) → j < length ts → 1 ≤ getD ts j blankTask .separation)
-    (within : (l j : ℕ) → 1 ≤ l → l ≤ m → j < length ts → heldFor l (getD ts j blankTask) ≤ getD ts j blankTask .cost)
-    (used : (l : ℕ) → 1 ≤ l → l ≤ m → 1 ≤ greatestHeld l ts)
-    (ranged : Ranged ts m σ) (some : 1 ≤ Q) (most : Q ≤ P) (p : passes P ts m σ Q ≡ true) where
+module _ (v : Partition) (σ : Setting) (Q : ℕ)
+    (apart : (j : ℕ) → j < length (v .tasks) → 1 ≤ getD (v .tasks) j blankTask .separation)
+    (within : (l j : ℕ) → 1 ≤ l → l ≤ v .locks → j < length (v .tasks) → heldFor l (getD (v .tasks) j blankTask) ≤ getD (v .tasks) j blankTask .cost)
+    (used : (l : ℕ) → 1 ≤ l → l ≤ v .locks → 1 ≤ greatestHeld l (v .tasks))
+    (ranged : Ranged v σ) (some : 1 ≤ Q) (most : Q ≤ v .period) (p : passes v σ Q ≡ true) where
   -- the task at the place k uses the lock, that at the place j for longest
-  module _ (l k j : ℕ) (from : 1 ≤ l) (upto : l ≤ m) (hk : k < length ts) (hj : j < length ts) (uk : uses l (getD ts k blankTask) ≡ true) (uj : uses l (getD ts j blankTask) ≡ true)
-      (longest : heldFor l (getD ts j blankTask) ≡ greatestHeld l ts) where
+  module _ (l k j : ℕ) (from : 1 ≤ l) (upto : l ≤ v .locks) (hk : k < length (v .tasks)) (hj : j < length (v .tasks)) (uk : uses l (getD (v .tasks) k blankTask) ≡ true) (uj : uses l (getD (v .tasks) j blankTask) ≡ true)
+      (longest : heldFor l (getD (v .tasks) j blankTask) ≡ greatestHeld l (v .tasks)) where
     number-k : suc k ≤ σ l
-    number-k = le-trans (user-number l ts k hk uk) (ranged l from upto .0)
+    number-k = le-trans (user-number l (v .tasks) k hk uk) (ranged l from upto .0)
 
     number-j : suc j ≤ σ l
-    number-j = le-trans (user-number l ts j hj uj) (ranged l from upto .0)
+    number-j = le-trans (user-number l (v .tasks) j hj uj) (ranged l from upto .0)
 
     -- the longest use and the tasks above the ceiling are in the need of the task at k
-    in-need : (t : ℕ) → 1 ≤ t → Dec (j < k) → Dec (k < j) → greatestHeld l ts + demandIn (drop (σ l) ts) t ≤ needOf (blockingOf m σ (reverse (take k ts))) (getD ts k blankTask) (drop (suc k) ts) t
+    in-need : (t : ℕ) → 1 ≤ t → Dec (j < k) → Dec (k < j) → greatestHeld l (v .tasks) + demandIn (drop (σ l) (v .tasks)) t ≤ needOf (blockingOf (v .locks) σ (reverse (take k (v .tasks)))) (getD (v .tasks) k blankTask) (drop (suc k) (v .tasks)) t
     unfolding needOf
     in-need t o (yes q) d =
-        let count : length (reverse (take k ts)) ≡ k = length-reverse (take k ts) ∙ length-take-le k ts (omega arith) in
-        let same : getD (take k ts) j blankTask ≡ getD ts j blankTask = getD-take k ts j blankTask q in
-        let member : List·Memᴰ (getD ts j blankTask) (reverse (take k ts)) = reverse-iff (getD ts j blankTask) (take k ts) .1 (subst (λ (x : Task). List·Memᴰ x (take k ts)) same (getD-member (take k ts) j blankTask (omega (arith, length-take-le k ts (omega arith))))) in
-        omega (arith, longest, blocking-paper m σ (reverse (take k ts)) .0 (getD ts j blankTask) l (member, record { from = from; upto = upto; ceiling = omega (arith, count, number-k) }), demand-behind ts t (suc k) (σ l) number-k)
+        let count : length (reverse (take k (v .tasks))) ≡ k = length-reverse (take k (v .tasks)) ∙ length-take-le k (v .tasks) (omega arith) in
+        let same : getD (take k (v .tasks)) j blankTask ≡ getD (v .tasks) j blankTask = getD-take k (v .tasks) j blankTask q in
+        let member : List·Memᴰ (getD (v .tasks) j blankTask) (reverse (take k (v .tasks))) = reverse-iff (getD (v .tasks) j blankTask) (take k (v .tasks)) .1 (subst (λ (x : Task). List·Memᴰ x (take k (v .tasks))) same (getD-member (take k (v .tasks)) j blankTask (omega (arith, length-take-le k (v .tasks) (omega arith))))) in
+        omega (arith, longest, blocking-paper (v .locks) σ (reverse (take k (v .tasks))) .0 (getD (v .tasks) j blankTask) l (member, record { from = from; upto = upto; ceiling = omega (arith, count, number-k) }), demand-behind (v .tasks) t (suc k) (σ l) number-k)
     in-need t o (no q) (yes d) =
-        omega (arith, longest, within l j from upto hj, demand-asks ts t j o hj (apart j hj), demand-behind ts t (suc k) j d, demand-behind ts t (suc j) (σ l) number-j)
+        omega (arith, longest, within l j from upto hj, demand-asks (v .tasks) t j o hj (apart j hj), demand-behind (v .tasks) t (suc k) j d, demand-behind (v .tasks) t (suc j) (σ l) number-j)
     in-need t o (no q) (no d) =
         let e : j ≡ k = omega arith in
-        omega (arith, longest, within l j from upto hj, ap (λ (i : ℕ). getD ts i blankTask .cost) e, demand-behind ts t (suc k) (σ l) number-k)
+        omega (arith, longest, within l j from upto hj, ap (λ (i : ℕ). getD (v .tasks) i blankTask .cost) e, demand-behind (v .tasks) t (suc k) (σ l) number-k)
 
-    free : (t : ℕ) → t ≤ getD ts k blankTask .deadline → getD ts k blankTask .deadline ≡ smallestDeadline l ts → 1 ≤ t → greatestHeld l ts + demandIn (drop (σ l) ts) t ≤ t → InTime ts l (σ l)
+    free : (t : ℕ) → t ≤ getD (v .tasks) k blankTask .deadline → getD (v .tasks) k blankTask .deadline ≡ smallestDeadline l (v .tasks) → 1 ≤ t → greatestHeld l (v .tasks) + demandIn (drop (σ l) (v .tasks)) t ≤ t → InTime (v .tasks) l (σ l)
     unfolding holdingOf
     free t a e o h =
-        let w = least-upto (held ts l (σ l)) (smallestDeadline l ts) 1 t o (omega arith) (held-paper ts l (σ l) t .1 h) in
-        let is = holding-paper ts l (σ l) (w .0) .0 (w .2) in
+        let w = least-upto (held (v .tasks) l (σ l)) (smallestDeadline l (v .tasks)) 1 t o (omega arith) (held-paper (v .tasks) l (σ l) t .1 h) in
+        let is = holding-paper (v .tasks) l (σ l) (w .0) .0 (w .2) in
         (w .0, is .0, is .1)
 
-    passes-free : getD ts k blankTask .deadline ≡ smallestDeadline l ts → InTime ts l (σ l)
+    passes-free : getD (v .tasks) k blankTask .deadline ≡ smallestDeadline l (v .tasks) → InTime (v .tasks) l (σ l)
     unfolding taskPassesAt
-    passes-free e = at (taskPasses-iff P Q _ _ _ .0 (passes-places P ts m σ Q .0 p k hk))
+    passes-free e = at (taskPasses-iff (v .period) Q _ _ _ .0 (passes-places v σ Q .0 p k hk))
       where
-        at : Met P Q (blockingOf m σ (reverse (take k ts))) (getD ts k blankTask) (drop (suc k) ts) → InTime ts l (σ l)
-        at (t, o, a, met) = free t a e o (omega (arith, in-need t o (decLt j k) (decLt k j), supply-le-t P Q t some most))
+        at : Met (v .period) Q (blockingOf (v .locks) σ (reverse (take k (v .tasks)))) (getD (v .tasks) k blankTask) (drop (suc k) (v .tasks)) → InTime (v .tasks) l (σ l)
+        at (t, o, a, met) = free t a e o (omega (arith, in-need t o (decLt j k) (decLt k j), supply-le-t (v .period) Q t some most))
 
-  lock-free : (l : ℕ) → 1 ≤ l → l ≤ m → InTime ts l (σ l)
+  lock-free : (l : ℕ) → 1 ≤ l → l ≤ v .locks → InTime (v .tasks) l (σ l)
   unfolding greatestHeld
-  lock-free l from upto = ⊎-elim (λ z. absurd (omega (arith, used l from upto))) go (greatest-reached (heldFor l) ts)
+  lock-free l from upto = ⊎-elim (λ z. absurd (omega (arith, used l from upto))) go (greatest-reached (heldFor l) (v .tasks))
     where
-      go : (v : Task) × List·Memᴰ v ts × (greatestHeld l ts ≡ heldFor l v) → InTime ts l (σ l)
-      go (v, mv, e) =
-          let uv : uses l v ≡ true = le-leb 1 (heldFor l v) (omega (arith, used l from upto)) in
-          let s = smallest-paper l ts v mv uv .1 in
-          let pk = place-of blankTask ts (s .1) in
-          let pj = place-of blankTask ts mv in
-          passes-free l (pk .0) (pj .0) from upto (pk .1) (pj .1) (sym (ap (uses l) (pk .2)) ∙ s .2) (sym (ap (uses l) (pj .2)) ∙ uv) (sym (ap (heldFor l) (pj .2)) ∙ sym e) (sym (ap (λ (x : Task). x .deadline) (pk .2)) ∙ s .3)
+      go : (u : Task) × List·Memᴰ u (v .tasks) × (greatestHeld l (v .tasks) ≡ heldFor l u) → InTime (v .tasks) l (σ l)
+      go (u, mu, e) =
+          let uu : uses l u ≡ true = le-leb 1 (heldFor l u) (omega (arith, used l from upto)) in
+          let s = smallest-paper l (v .tasks) u mu uu .1 in
+          let pk = place-of blankTask (v .tasks) (s .1) in
+          let pj = place-of blankTask (v .tasks) mu in
+          passes-free l (pk .0) (pj .0) from upto (pk .1) (pj .1) (sym (ap (uses l) (pk .2)) ∙ s .2) (sym (ap (uses l) (pj .2)) ∙ uu) (sym (ap (heldFor l) (pj .2)) ∙ sym e) (sym (ap (λ (x : Task). x .deadline) (pk .2)) ∙ s .3)
 
-  pub passing-permits : Permitted ts m σ
-  passing-permits = record { ranged = inRange-paper ts m σ .1 ranged; held = permitted-paper ts m σ .1 lock-free }
+  pub passing-permits : Permitted v σ
+  passing-permits = record { ranged = inRange-paper v σ .1 ranged; held = permitted-paper v σ .1 lock-free }

@@ -11,10 +11,10 @@ use lib.ListN.{getD, drop}
 use Rattle.least.specs.declared.Least.{Least}
 use Rattle.least.specs.declared.Least.the-variants.{At}
 use Rattle.task_set.specs.declared.Task.{Task}
-use Rattle.task_set.specs.ByColumn.{timesOf, FineTimes}
+use Rattle.task_set.specs.Code.ByColumn.{timesOf, FineTimes}
 use Rattle.budget.specs.declared.Passed.{Passed}
 use Rattle.budget.specs.Budget.{isMet}
-use Rattle.budget.specs.Code.{dueTask, NoneMet, PassedIs}
+use Rattle.budget.specs.Code.Passing.{dueTask, NoneMet, PassedIs}
 use Rattle.budget.proofs.Below.{below-unmet}
 
 module _ (T C deadlines : List ℕ) (n P : ℕ) where

@@ -13,28 +13,30 @@ use Rattle.least.specs.declared.Least.the-variants.{At}
 use Rattle.least.specs.Lists.{greatest, countFrom}
 use Rattle.least.proofs.Search.{NoneIn, least-found}
 use Rattle.least.proofs.Lists.{map-same, count-from}
-use Rattle.refusal.specs.Limits.{numberLimit}
+use Rattle.refusal.specs.Limits.{numberLimit, keptLimit}
 use Rattle.task_set.specs.declared.Task.{Task}
 use Rattle.task_set.specs.declared.Part.{Part}
 use Rattle.task_set.specs.declared.Columns.{Columns}
 use Rattle.task_set.specs.declared.Locks.{Locks}
-use Rattle.task_set.specs.Tasks.{tasksOf}
+use Rattle.task_set.specs.Code.Tasks.{tasksOf}
+use Rattle.task_set.specs.Code.Partition.{partitionOf}
 use Rattle.task_set.specs.Blocking.{Setting}
-use Rattle.task_set.specs.Fine.{FinePart}
-use Rattle.task_set.specs.ByColumn.{timesOf, ColumnsAre}
-use Rattle.task_set.specs.ByLock.{LocksAre, LongestBelow, blockingBy, settingOf}
+use Rattle.task_set.specs.Code.Fine.{FinePart}
+use Rattle.task_set.specs.Code.ByColumn.{timesOf, ColumnsAre}
+use Rattle.task_set.specs.Code.ByLock.{LocksAre, LongestBelow, blockingBy, settingOf}
 use Rattle.task_set.proofs.Places.{tasks-length, tasks-place}
 use Rattle.task_set.proofs.ByLock.{lowest-some}
 use Rattle.holding.specs.Holding.{holdingTimeOf}
 use Rattle.budget.specs.Budget.{passes, leastBudget}
 use Rattle.budget.proofs.Passing.{budget-iff}
 use Rattle.budget.proofs.SettingsAgree.{passes-agree, leastBudget-agree}
+use Rattle.raising.specs.declared.Raised.{Raised}
+use Rattle.raising.specs.Code.Raising.{ceilingAt, heldTime, RaisedIs}
 use Rattle.candidates.specs.declared.Pair.{Pair}
-use Rattle.candidates.specs.declared.Raised.{Raised}
 use Rattle.candidates.specs.declared.Budgeted.{Budgeted}
 use Rattle.candidates.specs.Candidates.{keptList, shownCeiling}
 use Rattle.candidates.specs.Statement.{Permitted, Candidate}
-use Rattle.candidates.specs.Code.{ceilingAt, heldTime, RaisedIs, budgetStep, BudgetIs}
+use Rattle.candidates.specs.Code.KeptSearch.{budgetStep, BudgetIs}
 use Rattle.candidates.proofs.Shown.{deadlines-holding, shown-budget}
 use Rattle.candidates.proofs.Walk.{pushed, WalkedFrom, Walked, walk-start, walk-push, walk-next, walk-missed, walk-no-budget}
 use Rattle.candidates.proofs.Count.{Used, walked-count, count-121}
@@ -46,11 +48,11 @@ pub record SearchAt (p : Part) (c : Columns) (x : ℕ) (ceilings times blocked :
   pub last : ℕ
   pub later : x ≤ last
   pub small : x ≤ numberLimit
-  pub known : AllKnown (tasksOf p) (p .locks) last ceilings times
+  pub known : AllKnown (partitionOf p) last ceilings times
   pub tested : Tested p c blocked budget
   pub from : 1 ≤ budget
   pub most : budget ≤ p .period
-  pub low : (σ : Setting) → Permitted (tasksOf p) (p .locks) σ → holdingTimeOf (tasksOf p) (p .locks) σ ≤ x → (Q : ℕ) → 1 ≤ Q → Q < budget → passes (p .period) (tasksOf p) (p .locks) σ Q ≡ false
+  pub low : (σ : Setting) → Permitted (partitionOf p) σ → holdingTimeOf (partitionOf p) σ ≤ x → (Q : ℕ) → 1 ≤ Q → Q < budget → passes (partitionOf p) σ Q ≡ false
 
 getD-replicate : (n k x : ℕ) → k < n → getD (replicate n x) k 0 ≡ x
 getD-replicate zero k x h = absurd (omega arith)
@@ -59,22 +61,22 @@ getD-replicate (suc n) (suc k) x h = getD-replicate n k x (omega arith)
 
 -- no holding time of a part is greater than numberLimit
 module _ (p : Part) (fine : FinePart p) where
-  pub holding-small : (σ : Setting) → Permitted (tasksOf p) (p .locks) σ → holdingTimeOf (tasksOf p) (p .locks) σ ≤ numberLimit
-  holding-small = deadlines-holding (tasksOf p) (p .locks) numberLimit (λ t m. let h = tasks-place p fine m in let f = fine .each (h .0) (h .1) in omega (arith, ap (λ (x : Task). x .deadline) (h .2)))
+  pub holding-small : (σ : Setting) → Permitted (partitionOf p) σ → holdingTimeOf (partitionOf p) σ ≤ numberLimit
+  holding-small = deadlines-holding (partitionOf p) numberLimit (λ t m. let h = tasks-place p fine m in let f = fine .each (h .0) (h .1) in omega (arith, ap (λ (x : Task). x .deadline) (h .2)))
 
-  pub walked-start : Walked (p .period) (tasksOf p) (p .locks) numberLimit []
-  walked-start = walk-start (p .period) (tasksOf p) (p .locks) numberLimit holding-small
+  pub walked-start : Walked (partitionOf p) numberLimit []
+  walked-start = walk-start (partitionOf p) numberLimit holding-small
 
-  pub candidate-small : (d : Pair) → Candidate (p .period) (tasksOf p) (p .locks) d → (d .budget ≤ p .period) × (d .holding ≤ numberLimit)
+  pub candidate-small : (d : Pair) → Candidate (partitionOf p) d → (d .budget ≤ p .period) × (d .holding ≤ numberLimit)
   candidate-small d q =
-      (budget-iff (p .period) (tasksOf p) (p .locks) (q .setting) (d .budget) .0 (q .budget) .1, omega (arith, q .holding, holding-small (q .setting) (q .allowed)))
+      (budget-iff (partitionOf p) (q .setting) (d .budget) .0 (q .budget) .1, omega (arith, q .holding, holding-small (q .setting) (q .allowed)))
 
-  used : Used (tasksOf p) (p .locks)
+  used : Used (partitionOf p)
   used = lowest-some p fine
 
-  pub walked-few : (e : ℕ) (cs : List Pair) → WalkedFrom (p .period) (tasksOf p) (p .locks) e cs → length cs ≤ 121
+  pub walked-few : (e : ℕ) (cs : List Pair) → WalkedFrom (partitionOf p) e cs → length cs ≤ keptLimit
   walked-few e cs w =
-      le-trans (walked-count (p .period) (tasksOf p) (p .locks) used e cs w) (count-121 (p .locks) (length (tasksOf p)) (fine .few-locks) (omega (arith, tasks-length p fine, fine .few)))
+      le-trans (walked-count (partitionOf p) used e cs w) (count-121 (p .locks) (length (tasksOf p)) (fine .few-locks) (omega (arith, tasks-length p fine, fine .few)))
 
 module _ (p : Part) (fine : FinePart p) (c : Columns) (k : Locks) (locks : LocksAre p k) where
   pub search-start : 1 ≤ p .period → (x : ℕ) → numberLimit < x → SearchAt p c numberLimit (k .lowest) (replicate 8 x) (replicate 16 x) 1
@@ -91,51 +93,51 @@ module _ (p : Part) (fine : FinePart p) (c : Columns) (k : Locks) (locks : Locks
 
 module _ (p : Part) (fine : FinePart p) (c : Columns) (are : ColumnsAre p c) (k : Locks) (locks : LocksAre p k) (x : ℕ) (ceilings times blocked : List ℕ) (budget : ℕ) (s : SearchAt p c x ceilings times blocked budget) (r : Raised) (is : RaisedIs (ceilingAt (timesOf (c .separations) (c .costs) (p .count)) (k .longest) (k .deadlines) ceilings times x) (p .locks) r) where
   -- what the code looked for is shown at x
-  next : (j : ℕ) → j < p .locks → ceilingAt (timesOf (c .separations) (c .costs) (p .count)) (k .longest) (k .deadlines) ceilings times x j ≡ shownAt (tasksOf p) x (suc j)
+  next : (j : ℕ) → j < p .locks → ceilingAt (timesOf (c .separations) (c .costs) (p .count)) (k .longest) (k .deadlines) ceilings times x j ≡ shownAt (partitionOf p) x (suc j)
   next = next-at p fine c are k locks x (s .last) ceilings times (s .later) (s .small) (s .known)
 
-  pub raise-missed : (cs : List Pair) → Walked (p .period) (tasksOf p) (p .locks) x cs → r .found ≡ false → cs ≡ keptList (p .period) (tasksOf p) (p .locks)
+  pub raise-missed : (cs : List Pair) → Walked (partitionOf p) x cs → r .found ≡ false → cs ≡ keptList (partitionOf p)
   raise-missed cs w e =
       let m = is .missed e in
-      walk-missed (p .period) (tasksOf p) (p .locks) x (suc (m .0)) cs w (omega arith) (omega (arith, m .1)) (shown-missed (tasksOf p) x (suc (m .0)) (sym (next (m .0) (m .1)) ∙ m .2))
+      walk-missed (partitionOf p) x (suc (m .0)) cs w (omega arith) (omega (arith, m .1)) (shown-missed (partitionOf p) x (suc (m .0)) (sym (next (m .0) (m .1)) ∙ m .2))
 
   module _ (yes : r .found ≡ true) where
-    shown : AllShown (tasksOf p) (p .locks) x (r .ceilings) (r .times)
+    shown : AllShown (partitionOf p) x (r .ceilings) (r .times)
     shown j h = sym (next j h) ∙ is .each yes j h
 
     pub raised-most : (j : ℕ) → j < p .locks → getD (r .ceilings) j 0 ≤ 16
     raised-most j h =
-        let f = least-found _ _ _ (getD (r .ceilings) j 0) (shown-held (tasksOf p) x (suc j) _ _ (shown j h) .lowest) in
+        let f = least-found _ _ _ (getD (r .ceilings) j 0) (shown-held (partitionOf p) x (suc j) _ _ (shown j h) .lowest) in
         omega (arith, f .from, f .below, tasks-length p fine, fine .few)
 
-    holding-is : holdingTimeOf (tasksOf p) (p .locks) (shownCeiling (tasksOf p) x) ≡ r .holding
+    holding-is : holdingTimeOf (partitionOf p) (shownCeiling (partitionOf p) x) ≡ r .holding
     holding-is =
-        holding-greatest (tasksOf p) (p .locks) x (r .ceilings) (r .times) shown
-        ∙ ap greatest (map-same (λ j. heldTime (shownAt (tasksOf p) x (suc j))) _ (countFrom 0 (p .locks)) (λ j q. sym (ap heldTime (next j (omega (arith, count-from (p .locks) 0 j q .1))))))
+        holding-greatest (partitionOf p) x (r .ceilings) (r .times) shown
+        ∙ ap greatest (map-same (λ j. heldTime (shownAt (partitionOf p) x (suc j))) _ (countFrom 0 (p .locks)) (λ j q. sym (ap heldTime (next j (omega (arith, count-from (p .locks) 0 j q .1))))))
         ∙ sym (is .holding yes)
 
     pub holding-most : r .holding ≤ x
-    holding-most = omega (arith, holding-is, shown-most (tasksOf p) (p .locks) x (r .ceilings) (r .times) shown)
+    holding-most = omega (arith, holding-is, shown-most (partitionOf p) x (r .ceilings) (r .times) shown)
 
-    permitted-shown : Permitted (tasksOf p) (p .locks) (shownCeiling (tasksOf p) x)
-    permitted-shown = shown-permitted (tasksOf p) (p .locks) x (r .ceilings) (r .times) shown
+    permitted-shown : Permitted (partitionOf p) (shownCeiling (partitionOf p) x)
+    permitted-shown = shown-permitted (partitionOf p) x (r .ceilings) (r .times) shown
 
-    none-below : NoneIn (passes (p .period) (tasksOf p) (p .locks) (settingOf (r .ceilings))) 1 budget
+    none-below : NoneIn (passes (partitionOf p) (settingOf (r .ceilings))) 1 budget
     none-below Q a b =
-        passes-agree (p .period) (tasksOf p) (p .locks) (settingOf (r .ceilings)) (shownCeiling (tasksOf p) x) (setting-agrees (tasksOf p) (p .locks) x (r .ceilings) (r .times) shown) Q
-        ∙ s .low (shownCeiling (tasksOf p) x) permitted-shown (shown-most (tasksOf p) (p .locks) x (r .ceilings) (r .times) shown) Q a b
+        passes-agree (partitionOf p) (settingOf (r .ceilings)) (shownCeiling (partitionOf p) x) (setting-agrees (partitionOf p) x (r .ceilings) (r .times) shown) Q
+        ∙ s .low (shownCeiling (partitionOf p) x) permitted-shown (shown-most (partitionOf p) x (r .ceilings) (r .times) shown) Q a b
 
-    least-agrees : leastBudget (p .period) (tasksOf p) (p .locks) (shownCeiling (tasksOf p) x) ≡ leastBudget (p .period) (tasksOf p) (p .locks) (settingOf (r .ceilings))
+    least-agrees : leastBudget (partitionOf p) (shownCeiling (partitionOf p) x) ≡ leastBudget (partitionOf p) (settingOf (r .ceilings))
     least-agrees =
-        sym (leastBudget-agree (p .period) (tasksOf p) (p .locks) (settingOf (r .ceilings)) (shownCeiling (tasksOf p) x) (setting-agrees (tasksOf p) (p .locks) x (r .ceilings) (r .times) shown))
+        sym (leastBudget-agree (partitionOf p) (settingOf (r .ceilings)) (shownCeiling (partitionOf p) x) (setting-agrees (partitionOf p) x (r .ceilings) (r .times) shown))
 
     module _ (table : List ℕ) (below : LongestBelow p table) (b : Budgeted) (has : BudgetIs (budgetStep (timesOf (c .separations) (c .costs) (p .count)) (c .costs) (c .deadlines) (p .period) (blockingBy table (r .ceilings) (p .locks)) blocked) (blockingBy table (r .ceilings) (p .locks)) (p .count) budget b) where
-      pub budget-missed : (cs : List Pair) → Walked (p .period) (tasksOf p) (p .locks) x cs → b .found ≡ false → cs ≡ keptList (p .period) (tasksOf p) (p .locks)
+      pub budget-missed : (cs : List Pair) → Walked (partitionOf p) x cs → b .found ≡ false → cs ≡ keptList (partitionOf p)
       budget-missed cs w e =
-          walk-no-budget (p .period) (tasksOf p) (p .locks) x cs w (least-agrees ∙ lowest-missed p fine c are table below (r .ceilings) blocked budget (s .from) (s .most) (s .tested) none-below (has .missed e))
+          walk-no-budget (partitionOf p) x cs w (least-agrees ∙ lowest-missed p fine c are table below (r .ceilings) blocked budget (s .from) (s .most) (s .tested) none-below (has .missed e))
 
       module _ (ok : b .found ≡ true) where
-        least : leastBudget (p .period) (tasksOf p) (p .locks) (shownCeiling (tasksOf p) x) ≡ At (b .budget)
+        least : leastBudget (partitionOf p) (shownCeiling (partitionOf p) x) ≡ At (b .budget)
         least = least-agrees ∙ lowest-found p fine c are table below (r .ceilings) blocked budget (s .from) (s .most) (s .tested) none-below (b .budget) (has .value ok)
 
         range : (budget ≤ b .budget) × (b .budget ≤ p .period)
@@ -144,19 +146,19 @@ module _ (p : Part) (fine : FinePart p) (c : Columns) (are : ColumnsAre p c) (k 
         pub budget-most : b .budget ≤ p .period
         budget-most = range .1
 
-        pub turn-push : (cs : List Pair) → Walked (p .period) (tasksOf p) (p .locks) x cs → WalkedFrom (p .period) (tasksOf p) (p .locks) (r .holding) (pushed (b .budget) (r .holding) cs)
-        turn-push cs w = walk-push (p .period) (tasksOf p) (p .locks) x (b .budget) (r .holding) cs w permitted-shown holding-is holding-most least
+        pub turn-push : (cs : List Pair) → Walked (partitionOf p) x cs → WalkedFrom (partitionOf p) (r .holding) (pushed (b .budget) (r .holding) cs)
+        turn-push cs w = walk-push (partitionOf p) x (b .budget) (r .holding) cs w permitted-shown holding-is holding-most least
 
-        pub turn-next : (cs : List Pair) → Walked (p .period) (tasksOf p) (p .locks) x cs → 1 ≤ r .holding → Walked (p .period) (tasksOf p) (p .locks) (r .holding - 1) (pushed (b .budget) (r .holding) cs)
-        turn-next cs w = walk-next (p .period) (tasksOf p) (p .locks) x (b .budget) (r .holding) cs w permitted-shown holding-is holding-most least
+        pub turn-next : (cs : List Pair) → Walked (partitionOf p) x cs → 1 ≤ r .holding → Walked (partitionOf p) (r .holding - 1) (pushed (b .budget) (r .holding) cs)
+        turn-next cs w = walk-next (partitionOf p) x (b .budget) (r .holding) cs w permitted-shown holding-is holding-most least
 
-        low-next : (y : ℕ) → y ≤ x → (σ : Setting) → Permitted (tasksOf p) (p .locks) σ → holdingTimeOf (tasksOf p) (p .locks) σ ≤ y → (Q : ℕ) → 1 ≤ Q → Q < b .budget → passes (p .period) (tasksOf p) (p .locks) σ Q ≡ false
-        low-next y h σ allowed u Q a l = go (passes (p .period) (tasksOf p) (p .locks) σ Q) refl
+        low-next : (y : ℕ) → y ≤ x → (σ : Setting) → Permitted (partitionOf p) σ → holdingTimeOf (partitionOf p) σ ≤ y → (Q : ℕ) → 1 ≤ Q → Q < b .budget → passes (partitionOf p) σ Q ≡ false
+        low-next y h σ allowed u Q a l = go (passes (partitionOf p) σ Q) refl
           where
-            go : (t : Bool) → passes (p .period) (tasksOf p) (p .locks) σ Q ≡ t → passes (p .period) (tasksOf p) (p .locks) σ Q ≡ false
+            go : (t : Bool) → passes (partitionOf p) σ Q ≡ t → passes (partitionOf p) σ Q ≡ false
             go false e = e
             go true e =
-                let f = shown-budget (tasksOf p) (p .locks) x σ allowed (le-trans u h) (p .period) Q e a (omega (arith, range .1)) in
+                let f = shown-budget (partitionOf p) x σ allowed (le-trans u h) Q e a (omega (arith, range .1)) in
                 let same : f .0 ≡ b .budget = cc (f .1, least) in
                 absurd (omega (arith, f .2))
 

@@ -2,8 +2,8 @@
 -- no smaller, put (Q,X) behind it, and go on from X − 1.
 --   Behind c d        == d has a smaller X and a greater Q+X than c
 --   lighter s cs      == the pairs with Q+X < s
---   WalkedFrom P ts m e cs == cs is what the walk keeps of the candidates with X ≥ e
---   Walked P ts m x cs == of those with X > x
+--   WalkedFrom v e cs == cs is what the walk keeps of the candidates with X ≥ e
+--   Walked v x cs == of those with X > x
 -- Assumes nothing.
 use Prim.Native.Nat.{ℕ, suc, _+_, _-_, _≤_, _<_}
 use native.Mathlib.Nat.{le-refl}
@@ -19,7 +19,7 @@ use Rattle.least.specs.Lists.{those}
 use Rattle.least.proofs.Lists.{those-member, those-passing}
 use Rattle.least.proofs.Those.{those-all, those-dropped}
 use Rattle.least.proofs.Pairwise.{Pairwise, pairwise-those, pairwise-map, pairwise-snoc, pairwise-across, pairwise-members, pairwise-unique}
-use Rattle.task_set.specs.declared.Task.{Task}
+use Rattle.task_set.specs.Partition.{Partition}
 use Rattle.task_set.specs.Blocking.{Setting}
 use Rattle.holding.specs.Holding.{holdingTimeOf}
 use Rattle.budget.specs.Budget.{leastBudget}
@@ -64,8 +64,8 @@ no-worse-same c d e h k (inl q) =
 no-worse-same c d e h k (inr (inl b)) = absurd (omega arith)
 no-worse-same c d e h k (inr (inr b)) = absurd (omega arith)
 
-module _ (P : ℕ) (ts : List Task) (m : ℕ) where
-  behind-kept : (c d : Pair) → IsKept P ts m c → IsKept P ts m d → d .holding < c .holding → Behind c d
+module _ (v : Partition) where
+  behind-kept : (c d : Pair) → IsKept v c → IsKept v d → d .holding < c .holding → Behind c d
   behind-kept c d k j l = go (decLt (sumOf c) (sumOf d))
     where
       go : Dec (sumOf c < sumOf d) → Behind c d
@@ -73,28 +73,28 @@ module _ (P : ℕ) (ts : List Task) (m : ℕ) where
       go (no h) = absurd (omega (arith, ap (λ p. p .holding) (k .alone d (j .candidate) (omega arith) (omega arith))))
 
   -- along the kept list X falls and Q+X rises
-  pub kept-ordered : Pairwise Behind (keptList P ts m)
+  pub kept-ordered : Pairwise Behind (keptList v)
   kept-ordered =
-      pairwise-map (λ c d k j l. behind-kept c d (kept-iff P ts m c .0 k) (kept-iff P ts m d .0 j) l) (falling-pairwise (kept-falls P ts m))
+      pairwise-map (λ c d k j l. behind-kept c d (kept-iff v c .0 k) (kept-iff v d .0 j) l) (falling-pairwise (kept-falls v))
 
   -- A list of candidates that has one beside each candidate that is no worse, with X falling and Q+X rising along it, is the kept list.
-  module _ (cs : List Pair) (candidates : (c : Pair) → List·Memᴰ c cs → Candidate P ts m c) (ordered : Pairwise Behind cs) (covers : (d : Pair) → Candidate P ts m d → Covered cs d) where
-    into-kept : (c : Pair) → List·Memᴰ c cs → List·Memᴰ c (keptList P ts m)
-    into-kept c k = kept-iff P ts m c .1 (record { candidate = candidates c k; alone = alone })
+  module _ (cs : List Pair) (candidates : (c : Pair) → List·Memᴰ c cs → Candidate v c) (ordered : Pairwise Behind cs) (covers : (d : Pair) → Candidate v d → Covered cs d) where
+    into-kept : (c : Pair) → List·Memᴰ c cs → List·Memᴰ c (keptList v)
+    into-kept c k = kept-iff v c .1 (record { candidate = candidates c k; alone = alone })
       where
-        alone : (d : Pair) → Candidate P ts m d → d .holding ≤ c .holding → sumOf d ≤ sumOf c → d ≡ c
+        alone : (d : Pair) → Candidate v d → d .holding ≤ c .holding → sumOf d ≤ sumOf c → d ≡ c
         alone d q x s =
             let e = covers d q in
             no-worse-same c d (e .0) (record { holding = x; sum = s }) (e .2) (pairwise-members ordered (e .1) k)
 
-    from-kept : (c : Pair) → List·Memᴰ c (keptList P ts m) → List·Memᴰ c cs
+    from-kept : (c : Pair) → List·Memᴰ c (keptList v) → List·Memᴰ c cs
     from-kept c k =
-        let i = kept-iff P ts m c .0 k in
+        let i = kept-iff v c .0 k in
         let e = covers c (i .candidate) in
         Memᴰ·cast (sym (i .alone (e .0) (candidates (e .0) (e .1)) (e .2 .holding) (e .2 .sum))) (e .1)
 
-    pub kept-criterion : cs ≡ keptList P ts m
-    kept-criterion = pairwise-unique Behind behind-once cs (keptList P ts m) ordered kept-ordered into-kept from-kept
+    pub kept-criterion : cs ≡ keptList v
+    kept-criterion = pairwise-unique Behind behind-once cs (keptList v) ordered kept-ordered into-kept from-kept
 
 -- the pairs with a sum below s
 abbrev pub lighter : ℕ → List Pair → List Pair
@@ -121,17 +121,17 @@ lighter-keep s cs c p l = those-all _ (cs ++ (c ∷ [])) (λ d k. lt-ltb (sumOf 
 abbrev pub pushed : ℕ → ℕ → List Pair → List Pair
 pushed Q X cs = lighter (Q + X) cs ++ (pair Q X ∷ [])
 
-pub record WalkedFrom (P : ℕ) (ts : List Task) (m e : ℕ) (cs : List Pair) : Type 0 where
-  pub candidates : (c : Pair) → List·Memᴰ c cs → Candidate P ts m c
+pub record WalkedFrom (v : Partition) (e : ℕ) (cs : List Pair) : Type 0 where
+  pub candidates : (c : Pair) → List·Memᴰ c cs → Candidate v c
   pub above : (c : Pair) → List·Memᴰ c cs → e ≤ c .holding
   pub ordered : Pairwise Behind cs
-  pub covers : (d : Pair) → Candidate P ts m d → e ≤ d .holding → Covered cs d
+  pub covers : (d : Pair) → Candidate v d → e ≤ d .holding → Covered cs d
 
-abbrev pub Walked : ℕ → List Task → ℕ → ℕ → List Pair → Type 0
-Walked P ts m x cs = WalkedFrom P ts m (suc x) cs
+abbrev pub Walked : Partition → ℕ → List Pair → Type 0
+Walked v x cs = WalkedFrom v (suc x) cs
 
-module _ (P : ℕ) (ts : List Task) (m : ℕ) where
-  pub walk-start : (x : ℕ) → ((σ : Setting) → Permitted ts m σ → holdingTimeOf ts m σ ≤ x) → Walked P ts m x []
+module _ (v : Partition) where
+  pub walk-start : (x : ℕ) → ((σ : Setting) → Permitted v σ → holdingTimeOf v σ ≤ x) → Walked v x []
   walk-start x most = record {
     candidates = λ c k. absurd (List·Memᴰ·not-nil k);
     above = λ c k. absurd (List·Memᴰ·not-nil k);
@@ -139,7 +139,7 @@ module _ (P : ℕ) (ts : List Task) (m : ℕ) where
     covers = λ d q l. absurd (omega (arith, most (q .setting) (q .allowed), q .holding));
   }
 
-  module _ (x Q X : ℕ) (cs : List Pair) (w : Walked P ts m x cs) (ok : Permitted ts m (shownCeiling ts x)) (is : holdingTimeOf ts m (shownCeiling ts x) ≡ X) (most : X ≤ x) (least : leastBudget P ts m (shownCeiling ts x) ≡ At Q) where
+  module _ (x Q X : ℕ) (cs : List Pair) (w : Walked v x cs) (ok : Permitted v (shownCeiling v x)) (is : holdingTimeOf v (shownCeiling v x) ≡ X) (most : X ≤ x) (least : leastBudget v (shownCeiling v x) ≡ At Q) where
     of-lighter : (c : Pair) → List·Memᴰ c (lighter (Q + X) cs) → List·Memᴰ c cs × (sumOf c < Q + X)
     of-lighter c k = let h = those-member _ cs k in (h .0, ltb-true (sumOf c) (Q + X) (h .1))
 
@@ -147,7 +147,7 @@ module _ (P : ℕ) (ts : List Task) (m : ℕ) where
     of-pushed R old new c k =
         ⊎-elim (λ (q : List·Memᴰ c (lighter (Q + X) cs)). old c (of-lighter c q .0)) (λ (q : List·Memᴰ c (pair Q X ∷ [])). subst R (sym (List·Memᴰ·eq-of-singleton q)) new) (List·Memᴰ·append-cases (lighter (Q + X) cs) k)
 
-    pushed-covers : (d : Pair) → Candidate P ts m d → X ≤ d .holding → Covered (pushed Q X cs) d
+    pushed-covers : (d : Pair) → Candidate v d → X ≤ d .holding → Covered (pushed Q X cs) d
     pushed-covers d q l = go (decLe (d .holding) x)
       where
         new : Q + X ≤ sumOf d → Covered (pushed Q X cs) d
@@ -162,41 +162,41 @@ module _ (P : ℕ) (ts : List Task) (m : ℕ) where
 
         go : Dec (d .holding ≤ x) → Covered (pushed Q X cs) d
         go (yes h) =
-            let b = candidate-shown P ts m x d q h in
+            let b = candidate-shown v x d q h in
             let same : b .0 ≡ Q = cc (b .1) in
             new (omega (arith, b .2))
         go (no h) = old (w .covers d q (omega arith))
 
-    pub walk-push : WalkedFrom P ts m X (pushed Q X cs)
+    pub walk-push : WalkedFrom v X (pushed Q X cs)
     walk-push = record {
-      candidates = of-pushed (Candidate P ts m) (w .candidates) (record { setting = shownCeiling ts x; allowed = ok; holding = is; budget = least });
+      candidates = of-pushed (Candidate v) (w .candidates) (record { setting = shownCeiling v x; allowed = ok; holding = is; budget = least });
       above = of-pushed (λ c. X ≤ c .holding) (λ c k. omega (arith, w .above c k)) (le-refl X);
       ordered = pairwise-snoc (pairwise-those _ (w .ordered)) (λ c k. let h = of-lighter c k in record { holding = omega (arith, w .above c (h .0)); sum = h .1 });
       covers = pushed-covers;
     }
 
     -- the same, where x can still fall
-    pub walk-next : 1 ≤ X → Walked P ts m (X - 1) (pushed Q X cs)
-    walk-next h = let e : X ≡ suc (X - 1) = omega arith in subst (λ (k : ℕ). WalkedFrom P ts m k (pushed Q X cs)) e walk-push
+    pub walk-next : 1 ≤ X → Walked v (X - 1) (pushed Q X cs)
+    walk-next h = let e : X ≡ suc (X - 1) = omega arith in subst (λ (k : ℕ). WalkedFrom v k (pushed Q X cs)) e walk-push
 
   -- all candidates are looked at: none has a smaller X
-  pub walk-all : (e : ℕ) (cs : List Pair) → WalkedFrom P ts m e cs → ((c : Pair) → Candidate P ts m c → e ≤ c .holding) → cs ≡ keptList P ts m
-  walk-all e cs w all = kept-criterion P ts m cs (w .candidates) (w .ordered) (λ d q. w .covers d q (all d q))
+  pub walk-all : (e : ℕ) (cs : List Pair) → WalkedFrom v e cs → ((c : Pair) → Candidate v c → e ≤ c .holding) → cs ≡ keptList v
+  walk-all e cs w all = kept-criterion v cs (w .candidates) (w .ordered) (λ d q. w .covers d q (all d q))
 
-  pub walk-end : (x : ℕ) (cs : List Pair) → Walked P ts m x cs → ((c : Pair) → Candidate P ts m c → c .holding ≤ x → ⊥) → cs ≡ keptList P ts m
+  pub walk-end : (x : ℕ) (cs : List Pair) → Walked v x cs → ((c : Pair) → Candidate v c → c .holding ≤ x → ⊥) → cs ≡ keptList v
   walk-end x cs w no-more = walk-all (suc x) cs w (λ c q. above c q (decLe (c .holding) x))
     where
-      above : (c : Pair) → Candidate P ts m c → Dec (c .holding ≤ x) → x < c .holding
+      above : (c : Pair) → Candidate v c → Dec (c .holding ≤ x) → x < c .holding
       above c q (yes h) = absurd (no-more c q h)
       above c q (no h) = omega arith
 
   -- at 0 nothing is left
-  pub walk-zero : (cs : List Pair) → WalkedFrom P ts m 0 cs → cs ≡ keptList P ts m
+  pub walk-zero : (cs : List Pair) → WalkedFrom v 0 cs → cs ≡ keptList v
   walk-zero cs w = walk-all 0 cs w (λ c q. omega arith)
 
   -- the walk ends where a lock has no ceiling within x, or no budget passes
-  pub walk-missed : (x l : ℕ) (cs : List Pair) → Walked P ts m x cs → 1 ≤ l → l ≤ m → lowestWithin ts x l ≡ Nothing → cs ≡ keptList P ts m
-  walk-missed x l cs w a b e = walk-end x cs w (λ c q h. found-none ts m x l a b e (q .setting) (q .allowed) (omega (arith, q .holding)))
+  pub walk-missed : (x l : ℕ) (cs : List Pair) → Walked v x cs → 1 ≤ l → l ≤ v .locks → lowestWithin v x l ≡ Nothing → cs ≡ keptList v
+  walk-missed x l cs w a b e = walk-end x cs w (λ c q h. found-none v x l a b e (q .setting) (q .allowed) (omega (arith, q .holding)))
 
-  pub walk-no-budget : (x : ℕ) (cs : List Pair) → Walked P ts m x cs → leastBudget P ts m (shownCeiling ts x) ≡ Nothing → cs ≡ keptList P ts m
-  walk-no-budget x cs w e = walk-end x cs w (no-budget-below P ts m x e)
+  pub walk-no-budget : (x : ℕ) (cs : List Pair) → Walked v x cs → leastBudget v (shownCeiling v x) ≡ Nothing → cs ≡ keptList v
+  walk-no-budget x cs w e = walk-end x cs w (no-budget-below v x e)

@@ -1,24 +1,23 @@
 // The candidates of a part and its kept list.
 use budget::Passed;
-use holding::Ceiling;
-use holding::Hint;
-use holding::Lowest;
 use least::Least;
+use raising::UNKNOWN;
+use refusal::KEPT_LIMIT;
 use refusal::NUMBER_LIMIT;
 use task_set::Part;
 ghost use mathlib.Core.Path.{_≡_};
 ghost use Prim.Native.Nat.{ℕ, suc, _≤_, _<_};
 ghost use lib.ListN.{getD, drop};
-ghost use Rattle.refusal.specs.Limits.{numberLimit};
-ghost use Rattle.demand.specs.Demand.{costLimit};
-ghost use Rattle.task_set.specs.Tasks.{tasksOf};
-ghost use Rattle.task_set.specs.Fine.{FinePart};
-ghost use Rattle.task_set.specs.ByColumn.{timesOf, FineTimes};
-ghost use Rattle.task_set.specs.ByLock.{blockingBy};
-ghost use Rattle.holding.specs.Code.{HintIs};
-ghost use Rattle.budget.specs.Code.{dueTask, NoneMet, PassedIs};
-ghost use Rattle.candidates.specs.Candidates.{keptAnswer, keptOf};
-ghost use Rattle.candidates.specs.Code.{nextCeiling, ceilingAt, FineLocks, RaisedIs, budgetAgain, budgetStep, BudgetIs, hasPair, pairsOf, sumAt, LighterIs};
+ghost use Rattle.refusal.specs.Limits.{numberLimit, keptLimit};
+ghost use Rattle.demand.specs.Code.Demand.{costLimit};
+ghost use Rattle.task_set.specs.Code.Partition.{partitionOf};
+ghost use Rattle.task_set.specs.Code.Fine.{FinePart};
+ghost use Rattle.task_set.specs.Code.ByColumn.{timesOf, FineTimes};
+ghost use Rattle.task_set.specs.Code.ByLock.{blockingBy};
+ghost use Rattle.budget.specs.Code.Passing.{dueTask, NoneMet, PassedIs};
+ghost use Rattle.candidates.specs.Candidates.{keptAnswer};
+ghost use Rattle.candidates.specs.Code.Candidates.{keptOf};
+ghost use Rattle.candidates.specs.Code.KeptSearch.{budgetAgain, budgetStep, BudgetIs, hasPair, pairsOf, sumAt, LighterIs};
 
 // A candidate: a least passing budget Q with its setting's holding time X.
 #[repr(C)]
@@ -30,107 +29,8 @@ pub struct Pair {
 // The kept list in falling X, and its count; the places behind it are zero.
 #[repr(C)]
 pub struct Kept {
-    pub pairs: [Pair; 121],
+    pub pairs: [Pair; KEPT_LIMIT],
     pub count: usize,
-}
-
-// No time and no blocking is as great: it stands where there is none yet.
-const UNKNOWN: u64 = NUMBER_LIMIT + 1;
-
-// The ceiling of a lock at x, with its holding time, from those at a greater x; and the hint for the next lock.
-fn next_ceiling(
-    separations: &[u64; 16],
-    costs: &[u64; 16],
-    n: usize,
-    g: u64,
-    limit: u64,
-    ceiling: usize,
-    time: u64,
-    x: u64,
-    hint: Hint,
-) -> Lowest
-    requires { ⌜ FineTimes (now separations) (now costs) n × (1 ≤ g) × (g ≤ numberLimit) × (limit ≤ numberLimit) × (ceiling ≤ 16) × (x < time) × HintIs (timesOf (now separations) (now costs) n) hint ⌝ }
-    ensures found { λ r. ⌜ r .ceiling ≡ nextCeiling (timesOf (now (separations .entry)) (now (costs .entry)) n) g limit ceiling time x ⌝ }
-    ensures told { λ r. ⌜ HintIs (timesOf (now (separations .entry)) (now (costs .entry)) n) (r .hint) ⌝ }
-{
-    if time <= NUMBER_LIMIT {
-        return holding::lowest_within(separations, costs, n, g, limit, ceiling + 1, x, hint);
-    }
-    holding::lowest_within(separations, costs, n, g, limit, ceiling, x, hint)
-}
-
-// The ceilings of all locks with their holding times, and X; none where some lock has none.
-pub struct Raised {
-    pub found: bool,
-    pub ceilings: [usize; 8],
-    pub times: [u64; 8],
-    pub holding: u64,
-}
-
-// The lowest ceilings that are held for at most x, from those at a greater x.
-fn raise(
-    separations: &[u64; 16],
-    costs: &[u64; 16],
-    n: usize,
-    longest: &[u64; 8],
-    limits: &[u64; 8],
-    m: usize,
-    ceilings: [usize; 8],
-    times: [u64; 8],
-    x: u64,
-) -> Raised
-    requires { ⌜ FineTimes (now separations) (now costs) n × FineLocks (now longest) (now limits) ceilings m ⌝ }
-    ensures { λ r. ⌜ RaisedIs (ceilingAt (timesOf (now (separations .entry)) (now (costs .entry)) n) (now (longest .entry)) (now (limits .entry)) ceilings times x) m r ⌝ }
-{
-    let mut raised = ceilings;
-    let mut held = times;
-    let mut holding = 0;
-    let mut hint = holding::no_hint();
-    let mut j = 0;
-    while j < m {
-        let time = held[j];
-        // A lock that is held for at most x keeps its ceiling.
-        if time <= x {
-            holding = least::larger(holding, time);
-            j += 1;
-            continue;
-        }
-        let next = next_ceiling(
-            separations,
-            costs,
-            n,
-            longest[j],
-            limits[j],
-            raised[j],
-            time,
-            x,
-            hint,
-        );
-        hint = next.hint;
-        let ceiling = next.ceiling;
-        match ceiling {
-            Ceiling::Held(r, w) => {
-                raised[j] = r;
-                held[j] = w;
-                holding = least::larger(holding, w);
-                j += 1;
-            }
-            Ceiling::NotHeld => {
-                return Raised {
-                    found: false,
-                    ceilings,
-                    times,
-                    holding: 0,
-                };
-            }
-        }
-    }
-    Raised {
-        found: true,
-        ceilings: raised,
-        times: held,
-        holding,
-    }
 }
 
 // The least budget from q on of the task at the place i with the blocking b; it passes with q where this blocking was tested before. With q its need is not
@@ -233,8 +133,13 @@ fn budget_under(
 }
 
 // How many pairs are left once those at the end with a sum Q + X of at least s are dropped.
-fn lighter_count(budgets: &[u64; 121], holdings: &[u64; 121], count: usize, s: u64) -> usize
-    requires { ⌜ (count ≤ 121) × ((k : ℕ) → k < count → sumAt (now budgets) (now holdings) k ≤ costLimit) ⌝ }
+fn lighter_count(
+    budgets: &[u64; KEPT_LIMIT],
+    holdings: &[u64; KEPT_LIMIT],
+    count: usize,
+    s: u64,
+) -> usize
+    requires { ⌜ (count ≤ keptLimit) × ((k : ℕ) → k < count → sumAt (now budgets) (now holdings) k ≤ costLimit) ⌝ }
     ensures { λ r. ⌜ LighterIs (now (budgets .entry)) (now (holdings .entry)) count s r ⌝ }
 {
     let mut left = count;
@@ -249,14 +154,14 @@ fn lighter_count(budgets: &[u64; 121], holdings: &[u64; 121], count: usize, s: u
 }
 
 // The first pairs of two arrays, as a list.
-fn kept_list(budgets: &[u64; 121], holdings: &[u64; 121], count: usize) -> Kept
-    requires { ⌜ count ≤ 121 ⌝ }
+fn kept_list(budgets: &[u64; KEPT_LIMIT], holdings: &[u64; KEPT_LIMIT], count: usize) -> Kept
+    requires { ⌜ count ≤ keptLimit ⌝ }
     ensures { λ r. ⌜ r ≡ keptAnswer (pairsOf (now (budgets .entry)) (now (holdings .entry)) count) ⌝ }
 {
     let mut pairs = [Pair {
         budget: 0,
         holding: 0,
-    }; 121];
+    }; KEPT_LIMIT];
     let mut i = 0;
     while i < count {
         pairs[i] = Pair {
@@ -272,7 +177,7 @@ fn kept_list(budgets: &[u64; 121], holdings: &[u64; 121], count: usize) -> Kept
 // there is up to x, and the search goes on from X − 1.
 pub fn kept_of(part: Part) -> Kept
     requires { ⌜ FinePart part × (1 ≤ part .period) × (part .period ≤ numberLimit) ⌝ }
-    ensures { λ r. ⌜ r ≡ keptOf (part .period) (tasksOf part) (part .locks) ⌝ }
+    ensures { λ r. ⌜ r ≡ keptOf (partitionOf part) ⌝ }
 {
     let columns = task_set::columns_of(part);
     let separations = columns.separations;
@@ -286,12 +191,12 @@ pub fn kept_of(part: Part) -> Kept
     let mut times = [UNKNOWN; 8];
     let mut blocked = [UNKNOWN; 16];
     let mut budget = 1;
-    let mut budgets = [0u64; 121];
-    let mut holdings = [0u64; 121];
+    let mut budgets = [0u64; KEPT_LIMIT];
+    let mut holdings = [0u64; KEPT_LIMIT];
     let mut count = 0;
     let mut x = NUMBER_LIMIT;
     loop {
-        let raised = raise(
+        let raised = raising::raise(
             &separations,
             &costs,
             part.count,
@@ -340,7 +245,7 @@ pub fn kept_of(part: Part) -> Kept
 // which a budget passes is permitted.
 pub fn has_pair(part: Part) -> bool
     requires { ⌜ FinePart part × (1 ≤ part .period) × (part .period ≤ numberLimit) ⌝ }
-    ensures { λ r. ⌜ r ≡ hasPair (part .period) (tasksOf part) (part .locks) ⌝ }
+    ensures { λ r. ⌜ r ≡ hasPair (partitionOf part) ⌝ }
 {
     let columns = task_set::columns_of(part);
     let separations = columns.separations;

@@ -1,9 +1,10 @@
 // What the program prints of each file that the arguments name, behind a line with its name: 'stdout' has what that should be.
 use libc::STDOUT_FILENO;
+use refusal::FILE_LIMIT;
 use stretch::Span;
 
 fn print_answer(fd: i32) {
-    let mut file = [0u8; 32769];
+    let mut file = [0u8; FILE_LIMIT + 1];
     let n = io::read_full(fd, &mut file);
     let p = console::print(&file[..n]);
     let text = p.text;

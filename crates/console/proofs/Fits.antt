@@ -10,10 +10,8 @@ use Rattle.refusal.specs.Number.{refusalNumber}
 use Rattle.refusal.specs.Questions.{Answer}
 use Rattle.refusal.specs.Questions.Answer.{answered, refused}
 use Rattle.refusal.proofs.Answers.{answered-not-refused, answer-same-refusal}
-use Rattle.plan_file.specs.Above.{FilePart}
-use Rattle.plan_file.specs.Reading.{readFile}
-use Rattle.plan_file.proofs.Fine.{read-fine, read-few}
-use Rattle.plan_file.proofs.Refusals.{read-refused-to-nine}
+use Rattle.plan_file.specs.Numbers.{PlanPart, partsOf}
+use Rattle.plan_file.proofs.PlanParts.{parts-fine, parts-few}
 use Rattle.listing.proofs.Lengths.{listingLimit}
 use Rattle.answers.specs.Answers.{planOf}
 use Rattle.planning.proofs.Answering.{plan-unread}
@@ -22,27 +20,28 @@ use Rattle.planner.specs.Demand3.NoneToPlan.{ten, eleven}
 use Rattle.planner.specs.Demand3.Demanded.{none-passes, fits, too-long}
 use Rattle.planner.proofs.Demand3.{plan-demanded}
 use Rattle.planner.proofs.Short.{printed-most}
+use Rattle.planner.proofs.Refusals.{unread-by-no-other}
 use Rattle.console.specs.Printed.{programRoom}
 
--- refusals 1 to 11 are not 14
+-- refusals 10 and 11 are not 14
 number-not-14 : (r : Refusal) → refusalNumber r ≤ 11 → r ≡ NoRoom → ⊥
 number-not-14 r h e = omega (arith, ap refusalNumber e)
 
-none-to-11 : {ps : List FilePart} {r : Refusal} → NoneToPlan ps r → refusalNumber r ≤ 11
+none-to-11 : {ps : List PlanPart} {r : Refusal} → NoneToPlan ps r → refusalNumber r ≤ 11
 none-to-11 (ten n) = omega arith
 none-to-11 (eleven each never) = omega arith
 
 pub enough-room : (room : ℕ) → listingLimit ≤ room → (s : List ℕ) → planOf s room ≡ refused NoRoom → ⊥
-enough-room room h s e = go (readFile s) refl
+enough-room room h s e = go (partsOf s) refl
   where
-    read : (ps : List FilePart) → readFile s ≡ answered ps → (a : Answer (List ℕ)) → a ≡ refused NoRoom → Demanded ps room a → ⊥
+    read : (ps : List PlanPart) → partsOf s ≡ answered ps → (a : Answer (List ℕ)) → a ≡ refused NoRoom → Demanded ps room a → ⊥
     read ps f a d (none-passes {r} n) = number-not-14 r (none-to-11 n) (answer-same-refusal d)
     read ps f a d (fits p l) = answered-not-refused d
-    read ps f a d (too-long p l) = omega (arith, l, printed-most (read-fine s ps f) p (read-few s ps f))
+    read ps f a d (too-long p l) = omega (arith, l, printed-most (parts-fine s ps f) p (parts-few s ps f))
 
-    go : (a : Answer (List FilePart)) → readFile s ≡ a → ⊥
+    go : (a : Answer (List PlanPart)) → partsOf s ≡ a → ⊥
     go (answered ps) f = read ps f (planOf s room) e (plan-demanded s room ps f)
-    go (refused r) f = number-not-14 r (omega (arith, read-refused-to-nine s r f)) (answer-same-refusal (sym (plan-unread s r f room) ∙ e))
+    go (refused r) f = unread-by-no-other s r NoRoom f refl (answer-same-refusal (sym (plan-unread s r f room) ∙ e))
 
 -- the program lends 8,192 bytes, enough for any listing
 pub any-listing-fits : (s : List ℕ) → planOf s programRoom ≡ refused NoRoom → ⊥

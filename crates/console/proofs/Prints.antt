@@ -12,7 +12,7 @@ use Rattle.refusal.specs.declared.Outcome.the-variants.{Done, Refused}
 use Rattle.refusal.specs.Number.{numberOf, placeOf}
 use Rattle.refusal.specs.Questions.{Answer}
 use Rattle.refusal.specs.Questions.Answer.{answered, refused}
-use Rattle.writer.specs.Written.{Written}
+use Rattle.writer.specs.Code.Written.{Written}
 use Rattle.writer.proofs.Digits.{digits-most}
 use Rattle.writer.proofs.Written.{written-whole}
 use Rattle.listing.specs.Listing.{refusedLine}

@@ -15,7 +15,7 @@ use Rattle.least.proofs.Round.{ceil-le, ceil-mono, product}
 use Rattle.least.proofs.Lists.{count-from}
 use Rattle.least.proofs.Sums.{sum-mono, sum-most, length-count}
 use Rattle.refusal.specs.Limits.{numberLimit}
-use Rattle.demand.specs.Demand.{demandFrom, costLimit, demandLimit, FinePeriods, FineDemand}
+use Rattle.demand.specs.Code.Demand.{demandFrom, costLimit, demandLimit, FinePeriods, FineDemand}
 
 module _ (periods costs : List ℕ) (n : ℕ) where
   pub demand-next : (k t : ℕ) → k < n → demandFrom periods costs n k t ≡ ceilDiv t (getD periods k 0) * getD costs k 0 + demandFrom periods costs n (suc k) t

@@ -10,7 +10,7 @@ use mathlib.Core.List.{List}
 use lib.ListN.{getD}
 use Rattle.least.specs.Round.{ceilDiv}
 use Rattle.least.proofs.Round.{ceil-covers, ceil-same}
-use Rattle.demand.specs.Demand.{FinePeriods, SameUntil}
+use Rattle.demand.specs.Code.Demand.{FinePeriods, SameUntil}
 
 -- the next time, from t on, at which the task at the place k comes
 abbrev pub nextTime : List ℕ → ℕ → ℕ → ℕ

@@ -1,1 +1,1 @@
-pub mod Demand
+pub mod Code

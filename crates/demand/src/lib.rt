@@ -3,7 +3,7 @@ ghost use mathlib.Core.Path.{_≡_};
 ghost use Prim.Native.Nat.{_*_, _≤_};
 ghost use Rattle.least.specs.Round.{ceilDiv};
 ghost use Rattle.refusal.specs.Limits.{numberLimit};
-ghost use Rattle.demand.specs.Demand.{FinePeriods, FineDemand, DemandIs, SameUntil};
+ghost use Rattle.demand.specs.Code.Demand.{FinePeriods, FineDemand, DemandIs, SameUntil};
 
 // How often a task with this period comes in t ticks. Often it is once, and nothing is divided.
 pub fn releases(t: u64, period: u64) -> u64

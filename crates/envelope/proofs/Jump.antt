@@ -5,10 +5,10 @@ use native.Mathlib.Nat.{le-trans, le-of-lt, sub-add-cancel, mul-add, mul-assoc, 
 use native.Mathlib.Omega.{arith}
 use mathlib.Core.Path.{_≡_, ap}
 use mathlib.Core.List.{List}
-use Rattle.demand.specs.Demand.{demandFrom}
+use Rattle.demand.specs.Code.Demand.{demandFrom}
 use Rattle.envelope.specs.declared.LinearSupply.{LinearSupply}
 use Rattle.envelope.specs.declared.Line.{Line}
-use Rattle.envelope.specs.Envelope.{slopeScale, LineIs, CrossingIs}
+use Rattle.envelope.specs.Code.Envelope.{slopeScale, LineIs, CrossingIs}
 
 -- the first of two digits of base 2^14
 pub first-digit : (a d : ℕ) → a < d → a * 16384 / d < 16384

@@ -13,10 +13,10 @@ use Rattle.least.specs.Search.{leastFrom}
 use Rattle.least.proofs.Round.{ceil-covers, ceil-least, ceil-mono}
 use Rattle.least.proofs.Search.{same-tests}
 use Rattle.least.proofs.Iterate.{Mono, settles, UnsolvedFrom, step-from, jump-from, past-from, rest-from}
-use Rattle.demand.specs.Demand.{demandFrom, FineDemand}
+use Rattle.demand.specs.Code.Demand.{demandFrom, FineDemand}
 use Rattle.demand.proofs.Demand.{demand-rises}
 use Rattle.envelope.specs.declared.LinearSupply.{LinearSupply}
-use Rattle.envelope.specs.Envelope.{metAt, firstMet, FineSupply, NoEarlier}
+use Rattle.envelope.specs.Code.Envelope.{metAt, firstMet, FineSupply, NoEarlier}
 
 module _ (periods costs : List ℕ) (n s own : ℕ) (by : LinearSupply) where
   abbrev asked : ℕ → ℕ

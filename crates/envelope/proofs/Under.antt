@@ -9,9 +9,9 @@ use mathlib.Core.List.{List}
 use lib.ListN.{getD}
 use Rattle.least.specs.Round.{ceilDiv}
 use Rattle.least.proofs.Round.{ceil-covers, ceil-mono}
-use Rattle.demand.specs.Demand.{demandFrom, FineDemand}
+use Rattle.demand.specs.Code.Demand.{demandFrom, FineDemand}
 use Rattle.demand.proofs.Demand.{demand-next}
-use Rattle.envelope.specs.Envelope.{slopeScale, LineIs}
+use Rattle.envelope.specs.Code.Envelope.{slopeScale, LineIs}
 
 -- one task as a slope: it asks for no less
 pub slope-under : (T C v : ℕ) → 1 ≤ T → C * slopeScale / T * v ≤ slopeScale * (ceilDiv v T * C)

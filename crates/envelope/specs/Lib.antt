@@ -1,1 +1,1 @@
-pub mod Envelope
+pub mod Code

@@ -5,8 +5,8 @@ use least::Least;
 ghost use mathlib.Core.Path.{_≡_};
 ghost use Prim.Native.Nat.{_+_, _-_, _*_, _/_, min, _≤_, _<_};
 ghost use Rattle.refusal.specs.Limits.{numberLimit};
-ghost use Rattle.demand.specs.Demand.{demandFrom, costLimit, demandLimit, FineDemand};
-ghost use Rattle.envelope.specs.Envelope.{firstMet, FineSupply, slopeScale, LineIs, CrossingIs, NoEarlier};
+ghost use Rattle.demand.specs.Code.Demand.{demandFrom, costLimit, demandLimit, FineDemand};
+ghost use Rattle.envelope.specs.Code.Envelope.{firstMet, FineSupply, slopeScale, LineIs, CrossingIs, NoEarlier};
 
 // A linear supply: a demand of x is met by the time v if times * x + wait <= rate * v. With a wait of 1 a ratio is to be smaller, with 0 no greater.
 pub struct LinearSupply {

@@ -14,17 +14,16 @@ use Rattle.refusal.specs.Questions.{firstNo, whenAnswered, whenDone}
 use Rattle.refusal.specs.Questions.Answer.{answered}
 use Rattle.task_set.specs.declared.Task.{Task}
 use Rattle.task_set.specs.Blocking.{Setting}
+use Rattle.task_set.specs.Partition.{Partition}
 use Rattle.holding.specs.Holding.{permitted, holdingTimeOf}
 use Rattle.budget.specs.Budget.{passes, leastBudget}
 use Rattle.budget.proofs.Passing.{budget-after}
 use Rattle.candidates.specs.declared.Pair.{Pair}
 use Rattle.candidates.specs.Candidates.{pair, withCeiling, settings, candidateOf, candidatesIn, keptAmong, keptList}
-use Rattle.plan_file.specs.Numbers.{tasksIn, lockCount}
-use Rattle.plan_file.specs.Reading.{readFile}
-use Rattle.answers.specs.Parts.{keptPairs}
+use Rattle.plan_file.specs.Numbers.{partsOf, partAt}
 use Rattle.answers.specs.Answers.{candidatesOf}
 use Rattle.examples.specs.Files.{fileF}
-use Rattle.examples.specs.Table.{partAt}
+use Rattle.examples.specs.Table.{partsIn}
 use Rattle.examples.proofs.Opened.{opened}
 
 abbrev task : ℕ → ℕ → List ℕ → Task
@@ -40,6 +39,9 @@ six =
     ∷ task 320 2 (0 ∷ 0 ∷ [])
     ∷ task 300 4 (0 ∷ 0 ∷ [])
     ∷ []
+
+abbrev pub F : Partition
+F = record { period = 250; tasks = six; locks = 2 }
 
 -- a setting, by the ceilings of r1 and r2, and the pair (Q,X) that is to be its candidate
 record Tried : Type 0 where
@@ -60,7 +62,7 @@ eighteen =
     ∷ at 6 1 112 204 ∷ at 6 2 112 104 ∷ at 6 3 112 84 ∷ at 6 4 112 20 ∷ at 6 5 112 20 ∷ at 6 6 112 20
     ∷ []
 
-all-settings : settings six 2 ≡ map settingOf eighteen
+all-settings : settings F ≡ map settingOf eighteen
 unfolding opened
 all-settings = refl
 
@@ -69,62 +71,58 @@ unfoldable isRight : Tried → Bool
 isRight t =
     let σ = settingOf t in
     let below = t .found .budget - 1 in
-    permitted six 2 σ && (eqb (holdingTimeOf six 2 σ) (t .found .holding) && (eqb (below + 1) (t .found .budget) && (ltb below 250 && (not (passes 250 six 2 σ below) && passes 250 six 2 σ (below + 1)))))
+    permitted F σ && (eqb (holdingTimeOf F σ) (t .found .holding) && (eqb (below + 1) (t .found .budget) && (ltb below 250 && (not (passes F σ below) && passes F σ (below + 1)))))
 
 all-right : every isRight eighteen ≡ true
 unfolding opened isRight
 all-right = refl
 
-right-candidate : (t : Tried) → isRight t ≡ true → candidateOf 250 six 2 (settingOf t) ≡ t .found ∷ []
+right-candidate : (t : Tried) → isRight t ≡ true → candidateOf F (settingOf t) ≡ t .found ∷ []
 unfolding isRight candidateOf
 right-candidate t e =
     let σ = settingOf t in
     let below = t .found .budget - 1 in
-    let fails = not (passes 250 six 2 σ below) in
-    let succeeds = passes 250 six 2 σ (below + 1) in
-    let p : (permitted six 2 σ ≡ true) × _ = and-iff (permitted six 2 σ) _ .0 e in
-    let x = and-iff (eqb (holdingTimeOf six 2 σ) (t .found .holding)) (eqb (below + 1) (t .found .budget) && (ltb below 250 && (fails && succeeds))) .0 (p .1) in
+    let fails = not (passes F σ below) in
+    let succeeds = passes F σ (below + 1) in
+    let p : (permitted F σ ≡ true) × _ = and-iff (permitted F σ) _ .0 e in
+    let x = and-iff (eqb (holdingTimeOf F σ) (t .found .holding)) (eqb (below + 1) (t .found .budget) && (ltb below 250 && (fails && succeeds))) .0 (p .1) in
     let b = and-iff (eqb (below + 1) (t .found .budget)) (ltb below 250 && (fails && succeeds)) .0 (x .1) in
     let l = and-iff (ltb below 250) (fails && succeeds) .0 (b .1) in
     let f = and-iff fails succeeds .0 (l .1) in
-    let least : leastBudget 250 six 2 σ ≡ At (below + 1) = budget-after 250 six 2 σ below (ltb-true below 250 (l .0)) (not-true (passes 250 six 2 σ below) (f .0)) (f .1) in
-    rw (p .0, least) (ap₂ (λ (Q X : ℕ). pair Q X ∷ []) (eqb-true (below + 1) (t .found .budget) (b .0)) (eqb-true (holdingTimeOf six 2 σ) (t .found .holding) (x .0)))
+    let least : leastBudget F σ ≡ At (below + 1) = budget-after F σ below (ltb-true below 250 (l .0)) (not-true (passes F σ below) (f .0)) (f .1) in
+    rw (p .0, least) (ap₂ (λ (Q X : ℕ). pair Q X ∷ []) (eqb-true (below + 1) (t .found .budget) (b .0)) (eqb-true (holdingTimeOf F σ) (t .found .holding) (x .0)))
 
-right-candidates : (ts : List Tried) → every isRight ts ≡ true → joined (map (candidateOf 250 six 2) (map settingOf ts)) ≡ map (λ t. t .found) ts
+right-candidates : (ts : List Tried) → every isRight ts ≡ true → joined (map (candidateOf F) (map settingOf ts)) ≡ map (λ t. t .found) ts
 unfolding joined
 right-candidates [] e = refl
 right-candidates (t ∷ ts) e = go (isRight t) refl (right-candidates ts)
   where
-    go : (b : Bool) → isRight t ≡ b → (every isRight ts ≡ true → joined (map (candidateOf 250 six 2) (map settingOf ts)) ≡ map (λ t. t .found) ts)
-        → candidateOf 250 six 2 (settingOf t) ++ joined (map (candidateOf 250 six 2) (map settingOf ts)) ≡ t .found ∷ map (λ t. t .found) ts
+    go : (b : Bool) → isRight t ≡ b → (every isRight ts ≡ true → joined (map (candidateOf F) (map settingOf ts)) ≡ map (λ t. t .found) ts)
+        → candidateOf F (settingOf t) ++ joined (map (candidateOf F) (map settingOf ts)) ≡ t .found ∷ map (λ t. t .found) ts
     go true h ih = ap₂ _++_ (right-candidate t h) (ih (sym (every-pass isRight t ts h) ∙ e))
     go false h ih = absurd (false≢true (sym (every-fail isRight t ts h) ∙ e))
 
-candidates-six : candidatesIn 250 six 2 ≡ map (λ t. t .found) eighteen
+candidates-six : candidatesIn F ≡ map (λ t. t .found) eighteen
 unfolding candidatesIn
-candidates-six = ap (λ (l : List Setting). joined (map (candidateOf 250 six 2) l)) all-settings ∙ right-candidates eighteen all-right
+candidates-six = ap (λ (l : List Setting). joined (map (candidateOf F) l)) all-settings ∙ right-candidates eighteen all-right
 
 kept-among : keptAmong (map (λ t. t .found) eighteen) ≡ pair 102 26 ∷ pair 105 24 ∷ pair 112 20 ∷ []
 unfolding opened
 kept-among = refl
 
-pub kept-six : keptList 250 six 2 ≡ pair 102 26 ∷ pair 105 24 ∷ pair 112 20 ∷ []
+pub kept-six : keptList F ≡ pair 102 26 ∷ pair 105 24 ∷ pair 112 20 ∷ []
 unfolding keptList
 kept-six = ap keptAmong candidates-six ∙ kept-among
 
 -- what the file says
-pub tasks-F : (tasksIn (partAt fileF 1) ≡ six) × (lockCount (partAt fileF 1) ≡ 2) × (partAt fileF 1 .period ≡ 250)
+pub part-F : partAt (partsIn fileF) 1 .numbers ≡ F
 unfolding opened
-tasks-F = (refl, refl, refl)
+part-F = refl
 
-kept-F : keptPairs (partAt fileF 1) ≡ pair 102 26 ∷ pair 105 24 ∷ pair 112 20 ∷ []
-unfolding keptPairs
-kept-F = rw (tasks-F .0, tasks-F .1, tasks-F .2) kept-six
-
-read-F : readFile fileF ≡ answered (partAt fileF 1 ∷ [])
+read-F : partsOf fileF ≡ answered (partAt (partsIn fileF) 1 ∷ [])
 unfolding opened
 read-F = refl
 
 pub keeps-F : candidatesOf fileF 1 ≡ answered (pair 102 26 ∷ pair 105 24 ∷ pair 112 20 ∷ [])
 unfolding candidatesOf whenAnswered whenDone firstNo isEmpty nthOr
-keeps-F = rw (read-F, kept-F) refl
+keeps-F = rw (read-F, part-F, kept-six) refl

@@ -17,8 +17,7 @@ use Rattle.refusal.specs.Questions.Answer.{answered}
 use Rattle.refusal.proofs.Answers.{done-not-refused}
 use Rattle.text.specs.Bytes.{bytes}
 use Rattle.load.specs.Load.{passesSystem}
-use Rattle.plan_file.specs.Above.{FilePart}
-use Rattle.plan_file.specs.Reading.{readFile}
+use Rattle.plan_file.specs.Numbers.{PlanPart, partsOf, partAt}
 use Rattle.listing.specs.Listing.{Ceiling, Share, ceilingLine, shareLine, shareLines, loadLine, loadShare, listingOf}
 use Rattle.answers.specs.declared.Planned.{Planned}
 use Rattle.answers.specs.Parts.{keptRows}
@@ -26,7 +25,7 @@ use Rattle.answers.specs.Answers.{planOf, planned, bufferAfter, HandedOver}
 use Rattle.planner.specs.Demand3.{Demand3}
 use Rattle.planner.proofs.Settled.{demand-3-settled}
 use Rattle.examples.specs.Files.{fileA, listingA, cardAt, listingC, fileTop, listingTop, fileSecond, listingSecond}
-use Rattle.examples.specs.Table.{partsIn, partAt}
+use Rattle.examples.specs.Table.{partsIn}
 use Rattle.examples.specs.WrongPlanners.{Planner, Does, AnswersEleven, PrintsA, LeavesBlank, AtTop, TopAfterFirst, firstChoice, StopsAtFirst, ShutOut, AllShutOut}
 use Rattle.examples.proofs.Opened.{opened}
 
@@ -36,7 +35,7 @@ blank = replicate 8192 0
 
 -- a file that is planned in it, as `plan` does it
 record PlannedAs (s text : List ℕ) : Type 0 where
-  read : readFile s ≡ answered (partsIn s)
+  read : partsOf s ≡ answered (partsIn s)
   plan : planOf s 8192 ≡ answered text
 
 planned-A : PlannedAs fileA listingA
@@ -94,7 +93,7 @@ first-fails : passesSystem (firstChoice (partsIn fileSecond)) ≡ false
 unfolding opened
 first-fails = refl
 
-all-kept : every (λ p. not (isEmpty (keptRows p))) (partsIn fileSecond) ≡ true
+all-kept : every (λ p. not (isEmpty (keptRows (p .numbers)))) (partsIn fileSecond) ≡ true
 unfolding opened
 all-kept = refl
 
@@ -114,19 +113,19 @@ abbrev topCeiling : Ceiling
 topCeiling = record { lock = bytes "l"; number = 2 }
 
 -- the second part of the file has one lock; the top is 2, and the ceiling shown for the X of the top is 2 too
-second-top : drop 1 (partsIn fileTop) ≡ partAt fileTop 2 ∷ []
+second-top : drop 1 (partsIn fileTop) ≡ partAt (partsIn fileTop) 2 ∷ []
 unfolding opened
 second-top = refl
 
-at-top : (u : Share) → AtTop (partAt fileTop 2) u → u .ceilings ≡ topCeiling ∷ []
+at-top : (u : Share) → AtTop (partAt (partsIn fileTop) 2) u → u .ceilings ≡ topCeiling ∷ []
 unfolding opened
 at-top u (inl e) = e
 at-top u (inr e) = e
 
-only-share : {p : FilePart} {shares : List Share} → Each AtTop (p ∷ []) shares → (u : Share) × (shares ≡ u ∷ []) × AtTop p u
+only-share : {p : PlanPart} {shares : List Share} → Each AtTop (p ∷ []) shares → (u : Share) × (shares ≡ u ∷ []) × AtTop p u
 only-share (more {y = u} h none) = (u, refl, h)
 
-two-shares : (p : FilePart) (shares : List Share) → Each AtTop (p ∷ []) (drop 1 shares) → (s : Share) × (u : Share) × (shares ≡ s ∷ u ∷ []) × AtTop p u
+two-shares : (p : PlanPart) (shares : List Share) → Each AtTop (p ∷ []) (drop 1 shares) → (s : Share) × (u : Share) × (shares ≡ s ∷ u ∷ []) × AtTop p u
 two-shares p (s ∷ shares) h = let o = only-share h in (s, o .0, ap (λ (l : List Share). s ∷ l) (o .1), o .2)
 
 -- the last ceiling printed for it is 1, and the top is 2
@@ -134,7 +133,7 @@ top-after-first : ShutOut TopAfterFirst
 unfolding opened
 top-after-first planner kind met =
     let k = kind fileTop blank (partsIn fileTop) listingTop (planned-top .read) (hands-over planner met fileTop listingTop planned-top) in
-    let t = two-shares (partAt fileTop 2) (k .0) (subst (λ (ps : List FilePart). Each AtTop ps (drop 1 (k .0))) second-top (k .2)) in
+    let t = two-shares (partAt (partsIn fileTop) 2) (k .0) (subst (λ (ps : List PlanPart). Each AtTop ps (drop 1 (k .0))) second-top (k .2)) in
     let l = listing-ends (t .0) (t .1) topCeiling (at-top (t .1) (t .3)) in
     let text : listingTop ≡ l .0 ++ ceilingLine topCeiling = k .1 ∙ ap listingOf (t .2) ∙ l .1 in
     let front : length (l .0) ≡ 59 = omega (arith, ap length text, length-append (l .0) (ceilingLine topCeiling)) in

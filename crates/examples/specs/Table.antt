@@ -15,14 +15,12 @@ use Rattle.least.specs.Fraction.{frac}
 use Rattle.refusal.specs.declared.Outcome.the-variants.{Done}
 use Rattle.refusal.specs.Questions.{Answer}
 use Rattle.refusal.specs.Questions.Answer.{answered, refused}
-use Rattle.candidates.specs.declared.Pair.{Pair}
-use Rattle.candidates.specs.Candidates.{pair, samePair, candidateOf}
 use Rattle.load.specs.declared.Row.{Row}
 use Rattle.load.specs.Load.{row}
 use Rattle.load.specs.Weigh.{weighOf}
-use Rattle.plan_file.specs.Above.{FilePart, noPart}
-use Rattle.plan_file.specs.Reading.{readFile}
-use Rattle.plan_file.specs.Numbers.{tasksIn, lockCount}
+use Rattle.candidates.specs.declared.Pair.{Pair}
+use Rattle.candidates.specs.Candidates.{pair, samePair, candidateOf}
+use Rattle.plan_file.specs.Numbers.{PlanPart, partsOf, partAt}
 use Rattle.answers.specs.Answers.{candidatesOf, supplyAnswer}
 use Rattle.console.specs.Printed.{printedOf}
 use Rattle.examples.specs.Files.{refusalLine, fileA, listingA, cardAt, listingC, listingD, fileF, onePart, listingI, everyTicks, listingL}
@@ -48,11 +46,8 @@ pub data Claim : Type 0 where
   supplies : (P Q t ticks : ℕ) → Claim
 
 -- the parts of a readable file, none of any other
-unfoldable pub partsIn : List ℕ → List FilePart
-partsIn file = elim (readFile file) [ answered parts ↦ parts | refused r ↦ [] ]
-
-abbrev pub partAt : List ℕ → ℕ → FilePart
-partAt file k = nthOr noPart k (partsIn file)
+unfoldable pub partsIn : List ℕ → List PlanPart
+partsIn file = elim (partsOf file) [ answered parts ↦ parts | refused r ↦ [] ]
 
 unfoldable pub isOn : Pair → Answer (List Pair) → Bool
 isOn c (answered kept) = some (samePair c) kept
@@ -63,7 +58,7 @@ Holds (prints file listing) = printedOf file ≡ listing
 Holds (refuses file number place) = printedOf file ≡ refusalLine number place
 Holds (sameFile file other) = file ≡ other
 Holds (offers file k ceilings c) =
-    let p = partAt file k in candidateOf (p .period) (tasksIn p) (lockCount p) (λ l. nthOr 0 l ceilings) ≡ c ∷ []
+    candidateOf (partAt (partsIn file) k .numbers) (λ l. nthOr 0 l ceilings) ≡ c ∷ []
 Holds (drops file k c) = isOn c (candidatesOf file k) ≡ false
 Holds (hasSmallerSumAndX c other) = (c .budget + c .holding < other .budget + other .holding) × (c .holding < other .holding)
 Holds (keeps file k kept) = candidatesOf file k ≡ answered kept

@@ -22,13 +22,11 @@ use Rattle.refusal.specs.declared.Refusal.the-variants.{NoChoice}
 use Rattle.refusal.specs.declared.Outcome.the-variants.{Refused}
 use Rattle.refusal.specs.Questions.Answer.{answered}
 use Rattle.task_set.specs.Blocking.{Setting}
-use Rattle.holding.specs.Holding.{holdingTimeOf}
-use Rattle.candidates.specs.Candidates.{shownCeiling}
 use Rattle.load.specs.declared.Row.{Row}
 use Rattle.load.specs.Load.{row, passesSystem}
-use Rattle.plan_file.specs.Above.{FilePart, lockNames}
-use Rattle.plan_file.specs.Numbers.{lockCount, tasksIn}
-use Rattle.plan_file.specs.Reading.{readFile}
+use Rattle.holding.specs.Holding.{holdingTimeOf}
+use Rattle.candidates.specs.Candidates.{shownCeiling}
+use Rattle.plan_file.specs.Numbers.{PlanPart, partsOf}
 use Rattle.listing.specs.Listing.{Share, ceilingsUnder, listingOf}
 use Rattle.answers.specs.declared.Planned.{Planned}
 use Rattle.answers.specs.Parts.{keptRows}
@@ -47,37 +45,37 @@ abbrev pub Does : Planner → List ℕ → List ℕ → Planned → List ℕ →
 Does planner s before r after = (r ≡ planner s before .result) × (after ≡ planner s before .bytes)
 
 abbrev pub AnswersEleven : Planner → Type 0
-AnswersEleven planner = (s before : List ℕ) (ps : List FilePart) → readFile s ≡ answered ps → planner s before .result .outcome ≡ Refused NoChoice
+AnswersEleven planner = (s before : List ℕ) (ps : List PlanPart) → partsOf s ≡ answered ps → planner s before .result .outcome ≡ Refused NoChoice
 
 abbrev pub PrintsA : Planner → Type 0
-PrintsA planner = (s before : List ℕ) (ps : List FilePart) → readFile s ≡ answered ps → length listingA ≤ length before → take (length listingA) (planner s before .bytes) ≡ listingA
+PrintsA planner = (s before : List ℕ) (ps : List PlanPart) → partsOf s ≡ answered ps → length listingA ≤ length before → take (length listingA) (planner s before .bytes) ≡ listingA
 
 abbrev pub LeavesBlank : Planner → Type 0
-LeavesBlank planner = (s : List ℕ) (room : ℕ) (ps : List FilePart) → readFile s ≡ answered ps → planner s (replicate room 0) .bytes ≡ replicate room 0
+LeavesBlank planner = (s : List ℕ) (room : ℕ) (ps : List PlanPart) → partsOf s ≡ answered ps → planner s (replicate room 0) .bytes ≡ replicate room 0
 
 -- every lock at the top: the number of the highest task
-abbrev pub topSetting : FilePart → Setting
-topSetting p l = length (tasksIn p)
+abbrev pub topSetting : PlanPart → Setting
+topSetting p l = length (p .numbers .tasks)
 
 -- what is printed of the part are its top ceilings, or the ceilings shown for their X
-abbrev pub AtTop : FilePart → Share → Type 0
+abbrev pub AtTop : PlanPart → Share → Type 0
 AtTop p s =
-    let X = holdingTimeOf (tasksIn p) (lockCount p) (topSetting p) in
-    (s .ceilings ≡ ceilingsUnder (topSetting p) 1 (lockNames p)) ⊎ (s .ceilings ≡ ceilingsUnder (shownCeiling (tasksIn p) X) 1 (lockNames p))
+    let X = holdingTimeOf (p .numbers) (topSetting p) in
+    (s .ceilings ≡ ceilingsUnder (topSetting p) 1 (p .locks)) ⊎ (s .ceilings ≡ ceilingsUnder (shownCeiling (p .numbers) X) 1 (p .locks))
 
 abbrev pub TopAfterFirst : Planner → Type 0
 TopAfterFirst planner =
-    (s before : List ℕ) (ps : List FilePart) (text : List ℕ) → readFile s ≡ answered ps →
+    (s before : List ℕ) (ps : List PlanPart) (text : List ℕ) → partsOf s ≡ answered ps →
     HandedOver (answered text) before (planner s before .result) (planner s before .bytes) →
     (shares : List Share) × (text ≡ listingOf shares) × Each AtTop (drop 1 ps) (drop 1 shares)
 
 -- every part with the first pair of its kept list
-abbrev pub firstChoice : List FilePart → List Row
-firstChoice ps = map (λ p. nthOr (row 0 0 0) 1 (keptRows p)) ps
+abbrev pub firstChoice : List PlanPart → List Row
+firstChoice ps = map (λ p. nthOr (row 0 0 0) 1 (keptRows (p .numbers))) ps
 
 abbrev pub StopsAtFirst : Planner → Type 0
 StopsAtFirst planner =
-    (s before : List ℕ) (ps : List FilePart) → readFile s ≡ answered ps → every (λ p. not (isEmpty (keptRows p))) ps ≡ true → passesSystem (firstChoice ps) ≡ false → planner s before .result .outcome ≡ Refused NoChoice
+    (s before : List ℕ) (ps : List PlanPart) → partsOf s ≡ answered ps → every (λ p. not (isEmpty (keptRows (p .numbers)))) ps ≡ true → passesSystem (firstChoice ps) ≡ false → planner s before .result .outcome ≡ Refused NoChoice
 
 abbrev pub ShutOut : (Planner → Type 0) → Type 0
 ShutOut Kind = (planner : Planner) → Kind planner → Demand3 (Does planner) → ⊥

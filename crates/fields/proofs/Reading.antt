@@ -18,7 +18,8 @@ use Rattle.text.specs.Decimal.{isDigit, valueAfter}
 use Rattle.refusal.specs.Limits.{numberLimit}
 use Rattle.fields.specs.declared.Number.{Number}
 use Rattle.fields.specs.declared.Number.the-variants.{Is, Malformed}
-use Rattle.fields.specs.Fields.{leadingZero, isNumber, numberIn}
+use Rattle.fields.specs.Fields.{leadingZero, isNumber}
+use Rattle.fields.specs.Code.Fields.{numberIn}
 
 unfoldable pub numberFrom : ℕ → List ℕ → Number
 numberFrom v bs = cond (every isDigit bs && leb (valueAfter v bs) numberLimit) (Is (valueAfter v bs)) Malformed

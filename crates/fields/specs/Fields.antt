@@ -1,18 +1,15 @@
 -- What the bytes of a field may be.
 --   isName bs    == a name is 1 to 8 bytes from a–z and 0–9
 --   isNumber bs  == a number is 1 to 1,000,000 without leading zero
---   numberIn bs  == a number field: its value, or that it is malformed
 -- Assumes nothing.
 use Prim.Native.Nat.{ℕ}
-use mathlib.Core.Bool.{Bool, false, cond, not, _&&_, _||_}
+use mathlib.Core.Bool.{Bool, false, not, _&&_, _||_}
 use mathlib.Core.List.{List, [], _∷_}
 use lib.Dec.{leb, eqb}
 use lib.ListN.{length}
 use Rattle.least.specs.Lists.{every}
 use Rattle.text.specs.Decimal.{isDigit, valueOf}
 use Rattle.refusal.specs.Limits.{numberLimit, nameLimit}
-use Rattle.fields.specs.declared.Number.{Number}
-use Rattle.fields.specs.declared.Number.the-variants.{Is, Malformed}
 
 -- a byte from a–z and 0–9
 unfoldable pub isNameByte : ℕ → Bool
@@ -27,6 +24,3 @@ leadingZero (b ∷ bs) = eqb b 48
 
 unfoldable pub isNumber : List ℕ → Bool
 isNumber bs = (every isDigit bs && not (leadingZero bs)) && (leb 1 (valueOf bs) && leb (valueOf bs) numberLimit)
-
-unfoldable pub numberIn : List ℕ → Number
-numberIn bs = cond (isNumber bs) (Is (valueOf bs)) Malformed

@@ -1,19 +1,18 @@
 // What the bytes of a field say: words, names and numbers.
+use refusal::NAME_LIMIT;
 use refusal::NUMBER_LIMIT;
 ghost use mathlib.Core.Path.{_≡_};
 ghost use Prim.Native.Nat.{_-_};
 ghost use Rattle.text.specs.Bytes.{same};
 ghost use Rattle.text.specs.Decimal.{isDigit};
-ghost use Rattle.fields.specs.Fields.{isNameByte, isName, numberIn};
+ghost use Rattle.fields.specs.Fields.{isNameByte, isName};
+ghost use Rattle.fields.specs.Code.Fields.{numberIn};
 
 // A number field.
 pub enum Number {
     Is(u64),
     Malformed,
 }
-
-// The greatest length of a name.
-const NAME_LIMIT: usize = 8;
 
 pub fn same_bytes(a: &[u8], b: &[u8]) -> bool
     ensures { λ r. ⌜ r ≡ same (now (a .entry)) (now (b .entry)) ⌝ }

@@ -2,11 +2,14 @@
 // the answer, then the pairs Q,X. 'stdout' has what the figures of the documents say.
 use libc::STDOUT_FILENO;
 use planner::Kept;
+use refusal::FILE_LIMIT;
+use refusal::KEPT_LIMIT;
+use refusal::PART_LIMIT;
 
 fn print_pairs(kept: Kept) {
     let count = kept.count;
     let mut i = 0;
-    while i < 121 {
+    while i < KEPT_LIMIT {
         if count <= i {
             return;
         }
@@ -44,7 +47,7 @@ fn print_part(name: &[u8], file: &[u8], part: usize) -> bool {
 
 fn print_parts(name: &[u8], file: &[u8]) {
     let mut part = 1;
-    while part <= 16 {
+    while part <= PART_LIMIT {
         if !print_part(name, file, part) {
             return;
         }
@@ -53,7 +56,7 @@ fn print_parts(name: &[u8], file: &[u8]) {
 }
 
 fn print_file(name: &[u8], fd: i32) {
-    let mut file = [0u8; 32769];
+    let mut file = [0u8; FILE_LIMIT + 1];
     let n = io::read_full(fd, &mut file);
     print_parts(name, &file[..n]);
 }

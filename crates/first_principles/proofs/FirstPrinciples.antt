@@ -6,16 +6,15 @@ use native.Mathlib.Omega.{arith}
 use mathlib.Core.Path.{_≡_}
 use mathlib.Core.Bool.{true}
 use mathlib.Core.Logic.{_↔_}
-use mathlib.Core.List.{List}
 use Rattle.refusal.specs.declared.Outcome.the-variants.{Done}
+use Rattle.delivery.proofs.Given.{given-periods, periods-delivered}
 use Rattle.supply.specs.Supply.{supplyOf}
-use Rattle.task_set.specs.declared.Task.{Task}
+use Rattle.task_set.specs.Partition.{Partition}
 use Rattle.task_set.specs.Blocking.{Setting}
 use Rattle.budget.specs.Budget.{passes}
 use Rattle.answers.specs.Answers.{supplyAnswer, supplied}
 use Rattle.planner.proofs.Refusals.{supply-done, supply-fits}
 use Rattle.planner.proofs.LocalTest.{local-test}
-use Rattle.delivery.proofs.Given.{given-periods, periods-delivered}
 use Rattle.first_principles.specs.FirstPrinciples.{LeastGiven, earlyThenLate, PassesDelivered, FirstPrinciples}
 use Rattle.first_principles.proofs.Windows.{supply-le-given, supply-le-delivered}
 use Rattle.first_principles.proofs.EarlyThenLate.{early-delivers, early-is-supply}
@@ -40,21 +39,21 @@ supply-answers-the-least P Q t e =
     let f = supply-done P Q t e in
     rw (supply-fits P Q t f) (supply-least P Q t (f .budget-some) (f .budget-most))
 
-module _ (P : ℕ) (ts : List Task) (m : ℕ) (σ : Setting) (Q : ℕ) (h : 1 ≤ Q) (b : Q ≤ P) where
+module _ (v : Partition) (σ : Setting) (Q : ℕ) (h : 1 ≤ Q) (b : Q ≤ v .period) where
   -- at the same t; and by the worst delivery
-  passes-delivered : (passes P ts m σ Q ≡ true) ↔ PassesDelivered P ts m σ Q
+  passes-delivered : (passes v σ Q ≡ true) ↔ PassesDelivered v σ Q
   passes-delivered = (to, from)
     where
-      to : passes P ts m σ Q ≡ true → PassesDelivered P ts m σ Q
+      to : passes v σ Q ≡ true → PassesDelivered v σ Q
       to p A d s lower task higher e =
-          let w = local-test .budget P ts m σ Q .0 p lower task higher e in
-          (w .0, w .1, w .2, le-trans (w .3) (supply-le-delivered P Q (w .0) h b A d _))
+          let w = local-test .budget v σ Q .0 p lower task higher e in
+          (w .0, w .1, w .2, le-trans (w .3) (supply-le-delivered (v .period) Q (w .0) h b A d _))
 
-      from : PassesDelivered P ts m σ Q → passes P ts m σ Q ≡ true
+      from : PassesDelivered v σ Q → passes v σ Q ≡ true
       from f =
-          local-test .budget P ts m σ Q .1 (λ lower task higher e.
-          let w = f (earlyThenLate P Q) (early-delivers P Q h b) Q lower task higher e in
-          (w .0, w .1, w .2, omega (arith, w .3, early-is-supply P Q (w .0) h b)))
+          local-test .budget v σ Q .1 (λ lower task higher e.
+          let w = f (earlyThenLate (v .period) Q) (early-delivers (v .period) Q h b) Q lower task higher e in
+          (w .0, w .1, w .2, omega (arith, w .3, early-is-supply (v .period) Q (w .0) h b)))
 
 pub first-principles : FirstPrinciples
 first-principles = record {

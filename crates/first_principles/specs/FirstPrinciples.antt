@@ -1,19 +1,18 @@
 -- Request M-108: the supply clause from first principles.
 --   LeastGiven P Q t x == x is the least number of given ticks in any window of t ticks, under any assignment that gives exactly Q ticks in each period of P
 --   earlyThenLate P Q  == a budget delivered early in the first period, and late in every one after it
---   PassesDelivered P ts m σ Q == a budget passes the local test however it is delivered, whatever tick the window of each task starts at
+--   PassesDelivered v σ Q == a budget passes the local test however it is delivered, whatever tick the window of each task starts at
 --   FirstPrinciples    == the supply is this least number, the operation `supply` answers it, and a budget passes the local test exactly if it passes however it is delivered
 -- Assumes nothing.
 use Prim.Native.Nat.{ℕ, _-_, _*_, _%_, _≤_}
 use mathlib.Core.Path.{_≡_}
 use mathlib.Core.Logic.{_↔_}
 use mathlib.Core.Bool.{true, cond}
-use mathlib.Core.List.{List}
 use lib.Dec.{leb, ltb}
 use Rattle.refusal.specs.declared.Outcome.the-variants.{Done}
-use Rattle.supply.specs.Supply.{supplyOf}
 use Rattle.delivery.specs.Assignment.{Assignment, given, Delivers}
-use Rattle.task_set.specs.declared.Task.{Task}
+use Rattle.supply.specs.Supply.{supplyOf}
+use Rattle.task_set.specs.Partition.{Partition}
 use Rattle.task_set.specs.Blocking.{Setting}
 use Rattle.budget.specs.Budget.{passes}
 use Rattle.answers.specs.Answers.{supplyAnswer, supplied}
@@ -29,8 +28,8 @@ pub record LeastGiven (P Q t x : ℕ) : Type 0 where
 unfoldable pub earlyThenLate : ℕ → ℕ → Assignment
 earlyThenLate P Q y = cond (ltb y P) (ltb y Q) (leb (P - Q) (y % P))
 
-abbrev pub PassesDelivered : ℕ → List Task → ℕ → Setting → ℕ → Type 0
-PassesDelivered P ts m σ Q = (A : Assignment) → Delivers P Q A → (s : ℕ) → PassesBy (given A s) ts m σ
+abbrev pub PassesDelivered : Partition → Setting → ℕ → Type 0
+PassesDelivered v σ Q = (A : Assignment) → Delivers (v .period) Q A → (s : ℕ) → PassesBy (given A s) v σ
 
 pub record FirstPrinciples : Type 0 where
   -- every assignment with exactly n × Q ticks in the first n periods, for every n, and no other
@@ -48,4 +47,4 @@ pub record FirstPrinciples : Type 0 where
   -- the operation `supply`, whatever it is asked: if it answers, then with the least number
   pub supply-answers : (P Q t : ℕ) → supplied (supplyAnswer P Q t) .outcome ≡ Done → LeastGiven P Q t (supplied (supplyAnswer P Q t) .ticks)
   -- a budget passes the local test exactly if it passes however it is delivered
-  pub passing : (P : ℕ) (ts : List Task) (m : ℕ) (σ : Setting) (Q : ℕ) → 1 ≤ Q → Q ≤ P → (passes P ts m σ Q ≡ true) ↔ PassesDelivered P ts m σ Q
+  pub passing : (v : Partition) (σ : Setting) (Q : ℕ) → 1 ≤ Q → Q ≤ v .period → (passes v σ Q ≡ true) ↔ PassesDelivered v σ Q

@@ -12,9 +12,10 @@ use Rattle.least.proofs.Pad.{take-pad, pad-next}
 use Rattle.refusal.specs.Limits.{rowLimit}
 use Rattle.load.specs.declared.Row.{Row}
 use Rattle.load.specs.Load.{row}
-use Rattle.load.specs.Weigh.{weighOf, rowsOf, rowsFrom, weighRows}
+use Rattle.load.specs.Weigh.{weighOf, rowsOf, weighRows}
+use Rattle.load.specs.Code.Weigh.{rowsFrom}
 use Rattle.load.proofs.Weighing.{wrong-count, weigh-many, weigh-few}
-use Rattle.hand_set.specs.Gathered.{withRow}
+use Rattle.hand_set.specs.Code.Gathered.{withRow}
 
 -- one row more
 pub rows-next : (xs : List Row) (n i : ℕ) → i < length xs → i < rowLimit → withRow (rowsFrom (take i xs) n) i (getD xs i (row 0 0 0)) ≡ rowsFrom (take (i + 1) xs) n

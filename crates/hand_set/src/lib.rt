@@ -5,6 +5,7 @@ use load::Rows;
 use load::Weighed;
 use refusal::NUMBER_LIMIT;
 use refusal::Outcome;
+use refusal::ROW_LIMIT;
 use refusal::Refusal;
 ghost use mathlib.Core.Path.{_≡_};
 ghost use mathlib.Core.Bool.{_&&_};
@@ -12,9 +13,10 @@ ghost use mathlib.Core.List.{[]};
 ghost use Prim.Native.Nat.{min, _<_};
 ghost use lib.Dec.{leb};
 ghost use Rattle.refusal.specs.Limits.{numberLimit, rowLimit};
-ghost use Rattle.load.specs.Weigh.{rowsFrom, weighOf};
+ghost use Rattle.load.specs.Weigh.{weighOf};
+ghost use Rattle.load.specs.Code.Weigh.{rowsFrom};
 ghost use Rattle.answers.specs.Answers.{supplyAnswer, supplied};
-ghost use Rattle.hand_set.specs.Gathered.{withRow};
+ghost use Rattle.hand_set.specs.Code.Gathered.{withRow};
 
 // Question 12 for a period, a budget and a time.
 fn is_in_range(p: u64, q: u64, t: u64) -> bool
@@ -57,7 +59,7 @@ fn no_rows(n: usize) -> Rows
             period: 0,
             budget: 0,
             holding: 0,
-        }; 16],
+        }; ROW_LIMIT],
         count: n,
     }
 }
@@ -66,10 +68,10 @@ fn no_rows(n: usize) -> Rows
 fn places(n: usize) -> usize
     ensures { λ r. ⌜ r ≡ min n rowLimit ⌝ }
 {
-    if n < 16 {
+    if n < ROW_LIMIT {
         return n;
     }
-    16
+    ROW_LIMIT
 }
 
 // The struct with this row at the place i.

@@ -15,6 +15,7 @@ use Rattle.least.proofs.Lists.{range-iff}
 use Rattle.least.proofs.Greatest.{greatest-mono}
 use Rattle.task_set.specs.declared.Task.{Task}
 use Rattle.task_set.specs.Tasks.{higher, demandIn, smallestDeadline}
+use Rattle.task_set.specs.Partition.{Partition}
 use Rattle.task_set.specs.Blocking.{Setting}
 use Rattle.task_set.proofs.Demand.{demand-drop}
 use Rattle.holding.specs.Holding.{held, holdingOf, permitted, holdingTimeOf}
@@ -40,16 +41,16 @@ holding-falls ts l r r′ w h e =
     (f .0, f .2, f .3)
 
 -- a permitted setting σ, and τ with ceilings that are no lower
-module _ (ts : List Task) (m : ℕ) (σ τ : Setting) (ok : permitted ts m σ ≡ true) (up : (l : ℕ) → 1 ≤ l → l ≤ m → σ l ≤ τ l) where
-  number-falls : (l : ℕ) → List·Memᴰ l (range 1 m) → numberOr0 (holdingOf ts l (τ l)) ≤ numberOr0 (holdingOf ts l (σ l))
+module _ (v : Partition) (σ τ : Setting) (ok : permitted v σ ≡ true) (up : (l : ℕ) → 1 ≤ l → l ≤ v .locks → σ l ≤ τ l) where
+  number-falls : (l : ℕ) → List·Memᴰ l (range 1 (v .locks)) → numberOr0 (holdingOf (v .tasks) l (τ l)) ≤ numberOr0 (holdingOf (v .tasks) l (σ l))
   unfolding numberOr0
   number-falls l k =
-      let r = range-iff 1 m l .0 k in
-      let t = permitted-paper ts m σ .0 ok l (r .0) (r .1) in
-      let e = holding-paper ts l (σ l) (t .0) .1 (t .1, t .2) in
-      let f = holding-falls ts l (σ l) (τ l) (t .0) (up l (r .0) (r .1)) e in
+      let r = range-iff 1 (v .locks) l .0 k in
+      let t = permitted-paper v σ .0 ok l (r .0) (r .1) in
+      let e = holding-paper (v .tasks) l (σ l) (t .0) .1 (t .1, t .2) in
+      let f = holding-falls (v .tasks) l (σ l) (τ l) (t .0) (up l (r .0) (r .1)) e in
       rw (e, f .1) (f .2)
 
-  pub holdingTime-falls : holdingTimeOf ts m τ ≤ holdingTimeOf ts m σ
+  pub holdingTime-falls : holdingTimeOf v τ ≤ holdingTimeOf v σ
   unfolding holdingTimeOf
-  holdingTime-falls = greatest-mono (λ l. numberOr0 (holdingOf ts l (τ l))) (λ l. numberOr0 (holdingOf ts l (σ l))) (range 1 m) number-falls
+  holdingTime-falls = greatest-mono (λ l. numberOr0 (holdingOf (v .tasks) l (τ l))) (λ l. numberOr0 (holdingOf (v .tasks) l (σ l))) (range 1 (v .locks)) number-falls

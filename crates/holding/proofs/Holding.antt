@@ -20,8 +20,10 @@ use Rattle.least.proofs.Lists.{and-iff, range-iff, every-range, those-member, t
 use Rattle.least.proofs.Greatest.{ZeroOrReached, greatest-each, greatest-reached}
 use Rattle.task_set.specs.declared.Task.{Task}
 use Rattle.task_set.specs.Tasks.{uses, higher, demandIn, lowestCeiling, greatestHeld, smallestDeadline}
+use Rattle.task_set.specs.Partition.{Partition}
 use Rattle.task_set.specs.Blocking.{Setting}
-use Rattle.holding.specs.Holding.{held, HoldingTime, holdingOf, inRange, exists, permitted, holdingTimeOf}
+use Rattle.holding.specs.Holding.{held, holdingOf, inRange, exists, permitted, holdingTimeOf}
+use Rattle.holding.specs.Code.Holding.{HoldingTime}
 
 -- the smallest deadline among the users of lock l: at most that of each, and that of one
 pub smallest-paper : (l : ℕ) (ts : List Task) (task : Task) → List·Memᴰ task ts → uses l task ≡ true → (smallestDeadline l ts ≤ task .deadline) × ((k : Task) × List·Memᴰ k ts × (uses l k ≡ true) × (k .deadline ≡ smallestDeadline l ts))
@@ -43,13 +45,13 @@ between-iff low r n = (to, λ h. and-iff (leb low r) (leb r n) .1 (le-leb low r 
     to e = let h = and-iff (leb low r) (leb r n) .0 e in (leb-true low r (h .0), leb-true r n (h .1))
 
 -- each ceiling is from the lock's lowest to n
-abbrev pub Ranged : List Task → ℕ → Setting → Type 0
-Ranged ts m σ = (l : ℕ) → 1 ≤ l → l ≤ m → (lowestCeiling l ts ≤ σ l) × (σ l ≤ length ts)
+abbrev pub Ranged : Partition → Setting → Type 0
+Ranged v σ = (l : ℕ) → 1 ≤ l → l ≤ v .locks → (lowestCeiling l (v .tasks) ≤ σ l) × (σ l ≤ length (v .tasks))
 
-pub inRange-paper : (ts : List Task) (m : ℕ) (σ : Setting) → (inRange ts m σ ≡ true) ↔ Ranged ts m σ
+pub inRange-paper : (v : Partition) (σ : Setting) → (inRange v σ ≡ true) ↔ Ranged v σ
 unfolding inRange
-inRange-paper ts m σ =
-    ((λ e l a b. between-iff _ _ _ .0 (every-range _ 1 m .0 e l a b)), λ h. every-range _ 1 m .1 (λ l a b. between-iff _ _ _ .1 (h l a b)))
+inRange-paper v σ =
+    ((λ e l a b. between-iff _ _ _ .0 (every-range _ 1 (v .locks) .0 e l a b)), λ h. every-range _ 1 (v .locks) .1 (λ l a b. between-iff _ _ _ .1 (h l a b)))
 
 pub holding-paper : (ts : List Task) (l r w : ℕ) → (holdingOf ts l r ≡ At w) ↔ (HoldingTime ts l r w × (w ≤ smallestDeadline l ts))
 unfolding holdingOf
@@ -73,49 +75,49 @@ in-time ts l r = (to, from)
     from : InTime ts l r → exists (holdingOf ts l r) ≡ true
     from h = exists-iff (holdingOf ts l r) .1 (h .0, holding-paper ts l r (h .0) .1 (h .1, h .2))
 
-pub permitted-paper : (ts : List Task) (m : ℕ) (σ : Setting) → (permitted ts m σ ≡ true) ↔ ((l : ℕ) → 1 ≤ l → l ≤ m → InTime ts l (σ l))
+pub permitted-paper : (v : Partition) (σ : Setting) → (permitted v σ ≡ true) ↔ ((l : ℕ) → 1 ≤ l → l ≤ v .locks → InTime (v .tasks) l (σ l))
 unfolding permitted
-permitted-paper ts m σ =
-    ((λ e l a b. in-time ts l (σ l) .0 (every-range _ 1 m .0 e l a b)), λ h. every-range _ 1 m .1 (λ l a b. in-time ts l (σ l) .1 (h l a b)))
+permitted-paper v σ =
+    ((λ e l a b. in-time (v .tasks) l (σ l) .0 (every-range _ 1 (v .locks) .0 e l a b)), λ h. every-range _ 1 (v .locks) .1 (λ l a b. in-time (v .tasks) l (σ l) .1 (h l a b)))
 
 -- X is the greatest holding time of the locks, or 0 without locks
-pub record IsGreatest (ts : List Task) (m : ℕ) (σ : Setting) (X : ℕ) : Type 0 where
-  pub each : (l w : ℕ) → 1 ≤ l → l ≤ m → HoldingTime ts l (σ l) w → w ≤ X
-  pub one : ((m ≡ 0) × (X ≡ 0)) ⊎ ((l : ℕ) × (1 ≤ l) × (l ≤ m) × HoldingTime ts l (σ l) X)
+pub record IsGreatest (v : Partition) (σ : Setting) (X : ℕ) : Type 0 where
+  pub each : (l w : ℕ) → 1 ≤ l → l ≤ v .locks → HoldingTime (v .tasks) l (σ l) w → w ≤ X
+  pub one : ((v .locks ≡ 0) × (X ≡ 0)) ⊎ ((l : ℕ) × (1 ≤ l) × (l ≤ v .locks) × HoldingTime (v .tasks) l (σ l) X)
 
 abbrev timeOf : List Task → Setting → ℕ → ℕ
 timeOf ts σ l = numberOr0 (holdingOf ts l (σ l))
 
-module _ (ts : List Task) (m : ℕ) (σ : Setting) (ok : permitted ts m σ ≡ true) where
+module _ (v : Partition) (σ : Setting) (ok : permitted v σ ≡ true) where
   -- the number that stands for lock l is its holding time
-  number-of : (l : ℕ) → 1 ≤ l → l ≤ m → (w : ℕ) × HoldingTime ts l (σ l) w × (timeOf ts σ l ≡ w)
+  number-of : (l : ℕ) → 1 ≤ l → l ≤ v .locks → (w : ℕ) × HoldingTime (v .tasks) l (σ l) w × (timeOf (v .tasks) σ l ≡ w)
   unfolding numberOr0
   number-of l a b =
-      let t = permitted-paper ts m σ .0 ok l a b in
-      (t .0, t .1, ap numberOr0 (holding-paper ts l (σ l) (t .0) .1 (t .1, t .2)))
+      let t = permitted-paper v σ .0 ok l a b in
+      (t .0, t .1, ap numberOr0 (holding-paper (v .tasks) l (σ l) (t .0) .1 (t .1, t .2)))
 
-  holdingTime-each : (l w : ℕ) → 1 ≤ l → l ≤ m → HoldingTime ts l (σ l) w → w ≤ holdingTimeOf ts m σ
+  holdingTime-each : (l w : ℕ) → 1 ≤ l → l ≤ v .locks → HoldingTime (v .tasks) l (σ l) w → w ≤ holdingTimeOf v σ
   unfolding holdingTimeOf
   holdingTime-each l w a b h =
       let n = number-of l a b in
-      omega (arith, least-unique (held ts l (σ l)) w (n .0) h (n .1), n .2, greatest-each (timeOf ts σ) (range 1 m) l (range-iff 1 m l .1 (a, b)))
+      omega (arith, least-unique (held (v .tasks) l (σ l)) w (n .0) h (n .1), n .2, greatest-each (timeOf (v .tasks) σ) (range 1 (v .locks)) l (range-iff 1 (v .locks) l .1 (a, b)))
 
   abbrev OneOrNone : Type 0
-  OneOrNone = ((m ≡ 0) × (holdingTimeOf ts m σ ≡ 0)) ⊎ ((l : ℕ) × (1 ≤ l) × (l ≤ m) × HoldingTime ts l (σ l) (holdingTimeOf ts m σ))
+  OneOrNone = ((v .locks ≡ 0) × (holdingTimeOf v σ ≡ 0)) ⊎ ((l : ℕ) × (1 ≤ l) × (l ≤ v .locks) × HoldingTime (v .tasks) l (σ l) (holdingTimeOf v σ))
 
   holdingTime-one : OneOrNone
   unfolding holdingTimeOf
-  holdingTime-one = go (greatest-reached (timeOf ts σ) (range 1 m)) (decLe 1 m)
+  holdingTime-one = go (greatest-reached (timeOf (v .tasks) σ) (range 1 (v .locks))) (decLe 1 (v .locks))
     where
-      go : ZeroOrReached (timeOf ts σ) (range 1 m) (holdingTimeOf ts m σ) → Dec (1 ≤ m) → OneOrNone
+      go : ZeroOrReached (timeOf (v .tasks) σ) (range 1 (v .locks)) (holdingTimeOf v σ) → Dec (1 ≤ v .locks) → OneOrNone
       go (inr r) d =
-          let k = range-iff 1 m (r .0) .0 (r .1) in
+          let k = range-iff 1 (v .locks) (r .0) .0 (r .1) in
           let n = number-of (r .0) (k .0) (k .1) in
-          inr (r .0, k .0, k .1, subst (HoldingTime ts (r .0) (σ (r .0))) (sym (r .2 ∙ n .2)) (n .1))
+          inr (r .0, k .0, k .1, subst (HoldingTime (v .tasks) (r .0) (σ (r .0))) (sym (r .2 ∙ n .2)) (n .1))
       go (inl z) (no d) = inl (omega arith, z)
       go (inl z) (yes d) =
           let n = number-of 1 (omega arith) d in
           absurd (omega (arith, n .1 .positive, holdingTime-each 1 (n .0) (omega arith) d (n .1)))
 
-  pub holdingTime-paper : IsGreatest ts m σ (holdingTimeOf ts m σ)
+  pub holdingTime-paper : IsGreatest v σ (holdingTimeOf v σ)
   holdingTime-paper = record { each = holdingTime-each; one = holdingTime-one }

@@ -7,10 +7,10 @@ use mathlib.Core.List.{List}
 use lib.ListN.{drop}
 use Rattle.least.proofs.Iterate.{Mono}
 use Rattle.envelope.specs.declared.LinearSupply.{LinearSupply}
-use Rattle.envelope.specs.Envelope.{FineSupply, NoEarlier}
+use Rattle.envelope.specs.Code.Envelope.{FineSupply, NoEarlier}
 use Rattle.task_set.specs.declared.Task.{Task}
 use Rattle.task_set.specs.Tasks.{demandIn}
-use Rattle.task_set.specs.ByColumn.{timesOf}
+use Rattle.task_set.specs.Code.ByColumn.{timesOf}
 use Rattle.task_set.proofs.Demand.{Separated, separated-drop, demand-mono}
 use Rattle.task_set.proofs.Times.{times-demand}
 

@@ -15,7 +15,7 @@ use Rattle.least.proofs.Iterate.{Unsolved, start-unsolved}
 use Rattle.task_set.specs.declared.Task.{Task}
 use Rattle.task_set.specs.Tasks.{higher, demandIn}
 use Rattle.holding.specs.declared.Ceiling.the-variants.{Held, NotHeld}
-use Rattle.holding.specs.Code.{holdUpTo, NoneHeld, SearchedTo, lowestHeld}
+use Rattle.holding.specs.Code.Search.{holdUpTo, NoneHeld, SearchedTo, lowestHeld}
 use Rattle.holding.proofs.Iteration.{holdNeed, need-from}
 use Rattle.holding.proofs.Within.{heldWithin, missed-within-both, ceiling-found, ceiling-missed}
 

@@ -15,7 +15,7 @@ use Rattle.least.proofs.Search.{NoneIn, least-at, least-nothing, least-iff, non
 use Rattle.task_set.specs.declared.Task.{Task}
 use Rattle.holding.specs.declared.Ceiling.the-variants.{Held, NotHeld}
 use Rattle.holding.specs.Holding.{within}
-use Rattle.holding.specs.Code.{holdUpTo, withTime, lowestHeld}
+use Rattle.holding.specs.Code.Search.{holdUpTo, withTime, lowestHeld}
 
 module _ (test : ℕ → Bool) (e x : ℕ) where
   pub found-within-both : (w : ℕ) → leastUpTo test (min e x) ≡ At w → (leastUpTo test e ≡ At w) × (within x (leastUpTo test e) ≡ true)

@@ -6,8 +6,8 @@ ghost use mathlib.Core.List.{List};
 ghost use Prim.Native.Nat.{_≤_};
 ghost use Rattle.refusal.specs.Limits.{numberLimit};
 ghost use Rattle.task_set.specs.declared.Task.{Task};
-ghost use Rattle.task_set.specs.ByColumn.{timesOf, FineTimes};
-ghost use Rattle.holding.specs.Code.{holdUpTo, NoneHeld, HintIs, BeginIs, lowestHeld};
+ghost use Rattle.task_set.specs.Code.ByColumn.{timesOf, FineTimes};
+ghost use Rattle.holding.specs.Code.Search.{holdUpTo, NoneHeld, HintIs, BeginIs, lowestHeld};
 
 // The holding time of a lock whose longest use is g, at the ceiling r, if it is at most the limit; it is known to be no less than `start`.
 pub fn hold(

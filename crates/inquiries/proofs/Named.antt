@@ -19,43 +19,35 @@ use Rattle.refusal.specs.Questions.{Answer, outcomeOf, whenAnswered, whenDone, 
 use Rattle.refusal.specs.Questions.Answer.{answered, refused}
 use Rattle.stretch.specs.declared.Span.{Span}
 use Rattle.stretch.specs.Stretch.{bytesOf}
-use Rattle.plan_file.specs.Above.{noPart}
-use Rattle.plan_file.specs.Reading.{readFile}
-use Rattle.plan_file.specs.Entries.{noSpan}
-use Rattle.plan_file.specs.Stretches.{nameSpans}
+use Rattle.plan_file.specs.Numbers.{PlanPart, partsOf, partAt}
+use Rattle.plan_file.specs.Stretches.{noSpan, nameSpans}
 use Rattle.reader.specs.declared.PartRead.{PartRead}
 use Rattle.reader.specs.declared.PlanFile.{PlanFile}
-use Rattle.reader.specs.Reader.{ReadPart, blankPart, asRead, partOf, ReadIs}
-use Rattle.reader.proofs.Handed.{Handed, part-handed}
+use Rattle.reader.specs.Code.Reader.{blankPart, partOf, partsIn, ReadIs}
+use Rattle.reader.proofs.Handed.{handed-done, parts-count, part-number}
 use Rattle.answers.specs.Answers.{isPartNumber, nameOf, nameBytes}
 use Rattle.inquiries.specs.Stretch.{noName, stretched, nameStretch, StretchIs}
 
-pub name-refused : (s : List ℕ) (k : ℕ) (r : Refusal) → readFile s ≡ refused r → nameOf s k ≡ refused r
+pub name-refused : (s : List ℕ) (k : ℕ) (r : Refusal) → partsOf s ≡ refused r → nameOf s k ≡ refused r
 unfolding nameOf whenAnswered
 name-refused s k r e = rw e refl
 
-module _ (s : List ℕ) (k : ℕ) (f : PlanFile) (h : Handed s f) where
-  -- whether k is the number of a part, by the count that was handed on
-  pub number-is : isPartNumber k (h .parts) ≡ (leb 1 k && leb k (f .count))
-  number-is = ap (λ (n : ℕ). leb 1 k && leb k n) (h .count)
+-- whether k is the number of a part, by the count that was handed on
+pub number-is : (s : List ℕ) (k : ℕ) (f : PlanFile) → ReadIs s f → isPartNumber k (partsIn s f) ≡ (leb 1 k && leb k (f .count))
+number-is s k f is = ap (λ (n : ℕ). leb 1 k && leb k n) (parts-count s f is)
 
-  pub name-given : leb 1 k && leb k (f .count) ≡ true → nameOf s k ≡ answered (nthOr noPart k (h .parts) .name)
+module _ (s : List ℕ) (k : ℕ) (f : PlanFile) (is : ReadIs s f) (done : f .outcome ≡ Done) where
+  pub name-given : leb 1 k && leb k (f .count) ≡ true → nameOf s k ≡ answered (partAt (partsIn s f) k .name)
   unfolding nameOf whenAnswered whenDone firstNo
-  name-given e = rw (h .reads) (simp (number-is ∙ e))
+  name-given e = rw (handed-done s f is done) (simp (number-is s k f is ∙ e))
 
   pub name-not-given : leb 1 k && leb k (f .count) ≡ false → nameOf s k ≡ refused (BadHandSet 0)
   unfolding nameOf whenAnswered whenDone firstNo
-  name-not-given e = rw (h .reads) (simp (number-is ∙ e))
+  name-not-given e = rw (handed-done s f is done) (simp (number-is s k f is ∙ e))
 
-name-at : (s : List ℕ) (f : PlanFile) (h : Handed s f) (j : ℕ) (d : PartRead) → j < f .count → getD (h .parts) j noPart .name ≡ bytesOf s (getD (f .parts) j d .name)
-unfolding asRead partOf
-name-at s f h j d l = ap (λ (p : ReadPart). p .name) (part-handed s f h j d l)
-
-pub name-is : (s : List ℕ) (k : ℕ) (f : PlanFile) (h : Handed s f) (d : PartRead) → 1 ≤ k → k ≤ f .count → nthOr noPart k (h .parts) .name ≡ bytesOf s (getD (f .parts) (k - 1) d .name)
-name-is s zero f h d l u = absurd (omega arith)
-name-is s (suc j) f h d l u =
-    let e : suc j - 1 ≡ j = omega arith in
-    rw (e, nth-get) (name-at s f h j d (omega arith))
+pub name-is : (s : List ℕ) (k : ℕ) (f : PlanFile) → ReadIs s f → (d : PartRead) → 1 ≤ k → k ≤ f .count → partAt (partsIn s f) k .name ≡ bytesOf s (getD (f .parts) (k - 1) d .name)
+unfolding partOf
+name-is s k f is d l u = ap (λ (p : PlanPart). p .name) (part-number s f is k d l u)
 
 pub number-range : (k n : ℕ) → leb 1 k && leb k n ≡ true → (1 ≤ k) × (k ≤ n)
 number-range k n e = let b = and-iff (leb 1 k) (leb k n) .0 e in (leb-true 1 k (b .0), leb-true k n (b .1))

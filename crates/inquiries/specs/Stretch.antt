@@ -16,8 +16,7 @@ use Rattle.refusal.specs.Questions.{Answer}
 use Rattle.refusal.specs.Questions.Answer.{answered, refused}
 use Rattle.stretch.specs.declared.Span.{Span}
 use Rattle.stretch.specs.Stretch.{bytesOf, StretchOf}
-use Rattle.plan_file.specs.Entries.{noSpan}
-use Rattle.plan_file.specs.Stretches.{nameSpans}
+use Rattle.plan_file.specs.Stretches.{noSpan, nameSpans}
 use Rattle.answers.specs.Answers.{nameOf, nameBytes}
 use Rattle.inquiries.specs.declared.NameStretch.{NameStretch}
 

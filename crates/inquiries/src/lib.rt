@@ -2,6 +2,7 @@
 use answers::CandidateList;
 use candidates::Kept;
 use candidates::Pair;
+use refusal::KEPT_LIMIT;
 use refusal::Outcome;
 use refusal::Refusal;
 use stretch::Span;
@@ -42,7 +43,7 @@ fn no_name(r: Refusal) -> NameStretch
 pub fn name_stretch(file: &[u8], part: usize) -> NameStretch
     ensures { λ r. ⌜ StretchIs (now (file .entry)) part r ⌝ }
 {
-    let f = reader::read_file(file);
+    let f = reader::read_file(file, 1);
     let o = f.outcome;
     match o {
         Outcome::Refused(r) => no_name(r),
@@ -89,7 +90,7 @@ fn refused_list(r: Refusal) -> CandidateList
     CandidateList {
         outcome: Outcome::Refused(r),
         kept: Kept {
-            pairs: [none; 121],
+            pairs: [none; KEPT_LIMIT],
             count: 0,
         },
     }
@@ -99,7 +100,7 @@ fn refused_list(r: Refusal) -> CandidateList
 pub fn candidates(file: &[u8], part: usize) -> CandidateList
     ensures { λ r. ⌜ r ≡ candidateList (candidatesOf (now (file .entry)) part) ⌝ }
 {
-    let f = reader::read_file(file);
+    let f = reader::read_file(file, 1);
     let o = f.outcome;
     match o {
         Outcome::Refused(r) => refused_list(r),

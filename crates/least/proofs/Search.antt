@@ -10,7 +10,8 @@ use mathlib.Core.Logic.{_⊎_, inl, inr, _↔_}
 use lib.Dec.{leb}
 use borrow.Author.Tests.{le-leb, lt-leb, leb-true, leb-false}
 use Rattle.least.specs.declared.Least.the-variants.{At, Nothing}
-use Rattle.least.specs.Search.{leastFrom, anyFrom, leastUpTo, anyUpTo, IsLeast}
+use Rattle.least.specs.Search.{leastFrom, anyFrom, leastUpTo, anyUpTo}
+use Rattle.least.specs.Code.Search.{IsLeast}
 
 -- two comparisons that hold together
 pub same-tests : (a b c d : ℕ) → (a ≤ b → c ≤ d) → (c ≤ d → a ≤ b) → leb a b ≡ leb c d

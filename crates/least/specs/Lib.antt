@@ -3,3 +3,4 @@ pub mod Search
 pub mod Lists
 pub mod Each
 pub mod Fraction
+pub mod Code

@@ -3,10 +3,8 @@
 --   leastUpTo test e   == the least w, 1 ≤ w ≤ e, that passes the test
 --   anyUpTo test e     == some t, 1 ≤ t ≤ e, passes the test
 --   numberOr0 l        == the number that a search found, 0 where it found none
---   IsLeast test w     == w is the least of all numbers from 1 on that pass the test
 -- Assumes nothing.
-use Prim.Native.Nat.{ℕ, zero, suc, _≤_}
-use mathlib.Core.Path.{_≡_}
+use Prim.Native.Nat.{ℕ, zero, suc}
 use mathlib.Core.Bool.{Bool, true, false}
 use Rattle.least.specs.declared.Least.{Least}
 use Rattle.least.specs.declared.Least.the-variants.{At, Nothing}
@@ -28,8 +26,3 @@ anyUpTo test e = anyFrom test 1 e
 unfoldable pub numberOr0 : Least → ℕ
 numberOr0 (At w) = w
 numberOr0 Nothing = 0
-
-pub record IsLeast (test : ℕ → Bool) (w : ℕ) : Type 0 where
-  pub positive : 1 ≤ w
-  pub passes : test w ≡ true
-  pub first : (v : ℕ) → 1 ≤ v → test v ≡ true → w ≤ v

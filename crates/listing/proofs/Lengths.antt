@@ -17,7 +17,7 @@ use Rattle.refusal.specs.Limits.{numberLimit, nameLimit, taskLimit, lockLimit, 
 use Rattle.text.specs.Decimal.{digitsOf}
 use Rattle.writer.proofs.Digits.{digits-few}
 use Rattle.listing.specs.Listing.{Ceiling, Share, ceilingLine, shareLine, shareLines, loadLine, loadShare, listingOf}
-use Rattle.listing.specs.Shares.{bare, named}
+use Rattle.listing.specs.Code.Shares.{bare, named}
 use Rattle.listing.proofs.Lines.{bound-length, load-length, share-line-length, ceiling-length}
 
 abbrev pub listingLimit : ℕ

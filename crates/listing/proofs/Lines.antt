@@ -11,7 +11,7 @@ use Rattle.text.specs.Bytes.{bytes, lineOf}
 use Rattle.text.specs.Decimal.{digitsOf}
 use Rattle.load.specs.declared.Row.{Row}
 use Rattle.listing.specs.Listing.{ceilingLine, shareLine, loadLine, refusedLine}
-use Rattle.listing.specs.Shares.{headOf, named, bare}
+use Rattle.listing.specs.Code.Shares.{headOf, named, bare}
 
 -- a field with the byte behind it
 abbrev pub closed : List ℕ → ℕ → List ℕ

@@ -12,7 +12,7 @@ use Rattle.least.specs.Lists.{nthOr, those, joined, firstFrom, firstOf}
 use Rattle.least.specs.Fraction.{atMost, greatestOf}
 use Rattle.least.proofs.Lists.{those-pass, those-fail, nth-get, FirstAt, first-at}
 use Rattle.listing.specs.Listing.{Share, shareLines, loadLine, loadShare, listingOf}
-use Rattle.listing.specs.Shares.{named, bare}
+use Rattle.listing.specs.Code.Shares.{named, bare}
 
 -- the load line shows the name and the bound of its share
 pub load-named : (s : Share) → loadLine (named (s .name) (s .bound)) ≡ loadLine s

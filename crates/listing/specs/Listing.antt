@@ -2,6 +2,7 @@
 --   Ceiling    == a lock's name and its ceiling, a task number
 --   Share      == what is printed of a part: its name, its row, the row's bound, and its locks' ceilings in order of first mention
 --   ceilingsUnder σ l names == the locks of these names, numbered from l on, each at its ceiling under the setting σ
+--   shareUnder name locks σ r b == what is printed of a part with this name and these lock names, with the row r, its bound b and the ceilings of σ
 --   ceilingLine == `ceiling` lock, task number
 --   shareLine  == `share` name P Q X L t
 --   shareLines == that line, then a `ceiling` line for each lock
@@ -34,6 +35,9 @@ pub record Share : Type 0 where
 unfoldable pub ceilingsUnder : Setting → ℕ → List (List ℕ) → List Ceiling
 ceilingsUnder σ l [] = []
 ceilingsUnder σ l (name ∷ names) = record { lock = name; number = σ l } ∷ ceilingsUnder σ (suc l) names
+
+unfoldable pub shareUnder : List ℕ → List (List ℕ) → Setting → Row → Frac → Share
+shareUnder name locks σ r b = record { name = name; row = r; bound = b; ceilings = ceilingsUnder σ 1 locks }
 
 unfoldable pub ceilingLine : Ceiling → List ℕ
 ceilingLine c = lineOf (bytes "ceiling" ∷ c .lock ∷ digitsOf (c .number) ∷ [])

@@ -10,10 +10,11 @@ ghost use lib.ListN.{length};
 ghost use Rattle.text.specs.Bytes.{lineOf};
 ghost use Rattle.text.specs.Decimal.{digitsOf};
 ghost use Rattle.stretch.specs.Stretch.{bytesOf};
-ghost use Rattle.plan_file.specs.Entries.{namesOf};
-ghost use Rattle.writer.specs.Written.{Written};
-ghost use Rattle.listing.specs.Listing.{ceilingLine, shareLine, shareLines, loadLine, refusedLine};
-ghost use Rattle.listing.specs.Shares.{headOf, named, bare, ceilingsOf, ceilingLines, shareFrom, FineLocks};
+ghost use Rattle.task_set.specs.Code.ByLock.{settingFrom};
+ghost use Rattle.plan_file.specs.Code.Entries.{namesOf};
+ghost use Rattle.writer.specs.Code.Written.{Written};
+ghost use Rattle.listing.specs.Listing.{ceilingsUnder, shareUnder, ceilingLine, shareLine, shareLines, loadLine, refusedLine};
+ghost use Rattle.listing.specs.Code.Shares.{headOf, named, bare, ceilingLines, FineLocks};
 
 const TAB: u8 = 9;
 
@@ -67,17 +68,18 @@ fn write_ceiling(out: &mut [u8], at: usize, lock: &[u8], number: u64) -> usize
     writer::write_number_field(out, next, number, NEWLINE)
 }
 
-// A `ceiling` line for each lock.
+// A `ceiling` line for each lock; the ceilings stand from the place `first` on.
 fn write_ceilings(
     file: &[u8],
     locks: Names,
-    ceilings: &[u64; 8],
+    ceilings: &[u64; 128],
+    first: usize,
     out: &mut [u8],
     at: usize,
 ) -> usize
-    requires { ⌜ FineLocks locks (now ceilings) ⌝ }
-    requires { ⌜ at + length (ceilingLines (ceilingsOf (namesOf (now file) locks) (now ceilings))) ≤ length (now out) ⌝ }
-    ensures { λ r. ⌜ Written at (ceilingLines (ceilingsOf (namesOf (now (file .entry)) locks) (now (ceilings .entry)))) (now (out .entry)) (now (out .exit)) r ⌝ }
+    requires { ⌜ FineLocks locks first ⌝ }
+    requires { ⌜ at + length (ceilingLines (ceilingsUnder (settingFrom (now ceilings) first) 1 (namesOf (now file) locks))) ≤ length (now out) ⌝ }
+    ensures { λ r. ⌜ Written at (ceilingLines (ceilingsUnder (settingFrom (now (ceilings .entry)) first) 1 (namesOf (now (file .entry)) locks))) (now (out .entry)) (now (out .exit)) r ⌝ }
 {
     let n = locks.count;
     let span = locks.span;
@@ -85,7 +87,7 @@ fn write_ceilings(
     let mut i = 0;
     while i < n {
         let lock = span[i];
-        let number = ceilings[i];
+        let number = ceilings[first + i];
         next = write_ceiling(out, next, stretch::bytes(file, lock), number);
         i += 1;
     }
@@ -99,16 +101,17 @@ pub fn write_share(
     row: Row,
     bound: Frac,
     locks: Names,
-    ceilings: &[u64; 8],
+    ceilings: &[u64; 128],
+    first: usize,
     out: &mut [u8],
     at: usize,
 ) -> usize
-    requires { ⌜ FineLocks locks (now ceilings) ⌝ }
-    requires { ⌜ at + length (shareLines (shareFrom (now file) name row bound locks (now ceilings))) ≤ length (now out) ⌝ }
-    ensures { λ r. ⌜ Written at (shareLines (shareFrom (now (file .entry)) name row bound locks (now (ceilings .entry)))) (now (out .entry)) (now (out .exit)) r ⌝ }
+    requires { ⌜ FineLocks locks first ⌝ }
+    requires { ⌜ at + length (shareLines (shareUnder (bytesOf (now file) name) (namesOf (now file) locks) (settingFrom (now ceilings) first) row bound)) ≤ length (now out) ⌝ }
+    ensures { λ r. ⌜ Written at (shareLines (shareUnder (bytesOf (now (file .entry)) name) (namesOf (now (file .entry)) locks) (settingFrom (now (ceilings .entry)) first) row bound)) (now (out .entry)) (now (out .exit)) r ⌝ }
 {
     let next = write_share_line(out, at, stretch::bytes(file, name), row, bound);
-    write_ceilings(file, locks, ceilings, out, next)
+    write_ceilings(file, locks, ceilings, first, out, next)
 }
 
 // `refused` NUMBER PLACE.
@@ -153,10 +156,10 @@ fn ceiling_length(lock: &[u8], number: u64) -> usize
     10 + lock.len() + writer::digit_count(number)
 }
 
-fn ceilings_length(file: &[u8], locks: Names, ceilings: &[u64; 8]) -> usize
-    requires { ⌜ FineLocks locks (now ceilings) ⌝ }
+fn ceilings_length(file: &[u8], locks: Names, ceilings: &[u64; 128], first: usize) -> usize
+    requires { ⌜ FineLocks locks first ⌝ }
     requires { ⌜ length (now file) ≤ 2 ^ 32 ⌝ }
-    ensures { λ r. ⌜ (r ≡ length (ceilingLines (ceilingsOf (namesOf (now (file .entry)) locks) (now (ceilings .entry))))) × (r ≤ 2 ^ 36) ⌝ }
+    ensures { λ r. ⌜ (r ≡ length (ceilingLines (ceilingsUnder (settingFrom (now (ceilings .entry)) first) 1 (namesOf (now (file .entry)) locks)))) × (r ≤ 2 ^ 36) ⌝ }
 {
     let n = locks.count;
     let span = locks.span;
@@ -164,7 +167,7 @@ fn ceilings_length(file: &[u8], locks: Names, ceilings: &[u64; 8]) -> usize
     let mut i = 0;
     while i < n {
         let lock = span[i];
-        let number = ceilings[i];
+        let number = ceilings[first + i];
         total += ceiling_length(stretch::bytes(file, lock), number);
         i += 1;
     }
@@ -178,12 +181,13 @@ pub fn share_length(
     row: Row,
     bound: Frac,
     locks: Names,
-    ceilings: &[u64; 8],
+    ceilings: &[u64; 128],
+    first: usize,
 ) -> usize
-    requires { ⌜ FineLocks locks (now ceilings) ⌝ }
+    requires { ⌜ FineLocks locks first ⌝ }
     requires { ⌜ length (now file) ≤ 2 ^ 32 ⌝ }
-    ensures { λ r. ⌜ (r ≡ length (shareLines (shareFrom (now (file .entry)) name row bound locks (now (ceilings .entry))))) × (r ≤ 2 ^ 37) ⌝ }
+    ensures { λ r. ⌜ (r ≡ length (shareLines (shareUnder (bytesOf (now (file .entry)) name) (namesOf (now (file .entry)) locks) (settingFrom (now (ceilings .entry)) first) row bound))) × (r ≤ 2 ^ 37) ⌝ }
 {
     let line = share_line_length(stretch::bytes(file, name), row, bound);
-    line + ceilings_length(file, locks, ceilings)
+    line + ceilings_length(file, locks, ceilings, first)
 }

@@ -20,12 +20,12 @@ use Rattle.least.proofs.Search.{LeastIn, least-found, least-missed}
 use Rattle.least.proofs.Iterate.{Mono}
 use Rattle.least.proofs.Fraction.{⊏-trans}
 use Rattle.refusal.specs.Limits.{numberLimit}
-use Rattle.demand.specs.Demand.{demandFrom, FineDemand, SameUntil}
+use Rattle.demand.specs.Code.Demand.{demandFrom, FineDemand, SameUntil}
 use Rattle.demand.proofs.Demand.{demand-same}
 use Rattle.envelope.specs.declared.LinearSupply.{LinearSupply}
-use Rattle.envelope.specs.Envelope.{metAt, firstMet, FineSupply}
+use Rattle.envelope.specs.Code.Envelope.{metAt, firstMet, FineSupply}
 use Rattle.load.specs.Load.{row, loadAt, boundOf}
-use Rattle.load.specs.ByColumn.{rowsCosting, Attained, LowerIs}
+use Rattle.load.specs.Code.ByColumn.{rowsCosting, Attained, LowerIs}
 use Rattle.load.proofs.Load.{loadAt-mono-t}
 use Rattle.load.proofs.Costing.{costing-demand, costing-periods}
 use Rattle.load.proofs.LeastRatio.{Best, wait-most, best-start, best-lower, best-found, best-settled, best-none}

@@ -7,12 +7,12 @@ use mathlib.Core.List.{List, List·Memᴰ}
 use lib.ListN.{length, drop, getD}
 use Rattle.least.proofs.Columns.{column-length, column-get}
 use Rattle.least.proofs.Members.{each-place, drop-member}
-use Rattle.demand.specs.Demand.{demandFrom, FinePeriods}
+use Rattle.demand.specs.Code.Demand.{demandFrom, FinePeriods}
 use Rattle.demand.proofs.Demand.{list-demand}
 use Rattle.load.specs.declared.Row.{Row}
 use Rattle.load.specs.Load.{rowSum, demandOf}
-use Rattle.load.specs.ByColumn.{rowCosting, rowsCosting}
-use Rattle.load.specs.Code.{noRow}
+use Rattle.load.specs.Code.ByColumn.{rowCosting, rowsCosting}
+use Rattle.load.specs.Code.Rows.{noRow}
 
 module _ (periods sums : List ℕ) (n : ℕ) where
   costing-length : length (rowsCosting periods sums n) ≡ n

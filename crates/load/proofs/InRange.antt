@@ -16,8 +16,8 @@ use Rattle.load.specs.declared.Rows.{Rows}
 use Rattle.load.specs.declared.RowColumns.{RowColumns}
 use Rattle.load.specs.Load.{rowSum}
 use Rattle.load.specs.Weigh.{RowFits, rowInRange, rowsOf}
-use Rattle.load.specs.ByColumn.{rowAt, rowsBy, FineColumns}
-use Rattle.load.specs.Code.{noRow, FineRow, FineRows, ColumnsAre, InRange}
+use Rattle.load.specs.Code.ByColumn.{rowAt, rowsBy, FineColumns}
+use Rattle.load.specs.Code.Rows.{noRow, FineRow, FineRows, ColumnsAre, InRange}
 use Rattle.load.proofs.RowsBy.{rows-length, rows-get}
 
 pub fits-in-range : (r : Row) → RowFits r → rowInRange r ≡ true

@@ -5,7 +5,7 @@
 use mathlib.Core.Path.{_≡_, refl, sym, ap, _∙_}
 use mathlib.Core.Logic.{_⊎_, inl, inr, ⊎-elim, _↔_}
 use mathlib.Core.Bool.{Bool, true, false, false≢true}
-use mathlib.Core.List.{List, [], _∷_, _++_, map, reverse, List·Memᴰ}
+use mathlib.Core.List.{List, [], _∷_, _++_, reverse, List·Memᴰ}
 use mathlib.Core.List.List·Memᴰ.{List·Memᴰ·head, List·Memᴰ·tail}
 use Prim.Native.Nat.{ℕ, zero, suc, _≤_, _<_}
 use native.Mathlib.Nat.{le-refl, mul-le-mul-left, mul-le-mul-right, add-le-add}
@@ -28,7 +28,7 @@ use Rattle.least.proofs.Fraction.{Ok, Finite, AllOk, Reached, FirstGreatest, co
 use Rattle.least.proofs.First.{first-greatest}
 use Rattle.demand.proofs.Demand.{demand-mono}
 use Rattle.load.specs.declared.Row.{Row}
-use Rattle.load.specs.Load.{rowSum, demandOf, loadAt, rowPasses, passesSystem, ratio, boundOf, boundsOf, loadOf, loadRow}
+use Rattle.load.specs.Load.{rowSum, demandOf, heldBelow, loadAt, rowPasses, passesSystem, ratio, boundOf, boundsOf, loadOf, loadRow}
 
 -- the ratio L/t
 pub ratio-is : (L t : ℕ) → L ≤ t → ratio L t ≡ frac L t
@@ -297,10 +297,6 @@ pub record Under (r s : Row) : Type 0 where
 
 pub under-asks : {r s : Row} → Under r s → Asks r s
 under-asks u = record { period = u .period; sums = u .sums }
-
--- the greatest X of lower rows
-abbrev pub heldBelow : List Row → ℕ
-heldBelow lower = greatest (map (λ k. k .holding) lower)
 
 held-more : (r s : Row) (lower lower′ : List Row) → r .holding ≤ s .holding → heldBelow lower ≤ heldBelow lower′ → heldBelow (r ∷ lower) ≤ heldBelow (s ∷ lower′)
 unfolding greatest

@@ -13,13 +13,13 @@ use Rattle.least.specs.Fraction.{leastOver}
 use Rattle.least.proofs.Columns.{column-length, column-get}
 use Rattle.least.proofs.Along.{along-at}
 use Rattle.least.proofs.Pad.{pad-none, pad-next}
-use Rattle.demand.specs.Demand.{demandFrom}
+use Rattle.demand.specs.Code.Demand.{demandFrom}
 use Rattle.demand.proofs.Demand.{list-demand}
 use Rattle.load.specs.declared.Row.{Row}
-use Rattle.load.specs.Load.{row, rowSum, demandOf, loadAt, ratio, boundOf, boundsOf}
-use Rattle.load.specs.ByColumn.{rowsCosting, rowAt, rowsBy, FineColumns}
-use Rattle.load.specs.Code.{noRow, noFrac}
-use Rattle.load.proofs.Load.{heldBelow, boundsOf-length}
+use Rattle.load.specs.Load.{row, rowSum, demandOf, heldBelow, loadAt, ratio, boundOf, boundsOf}
+use Rattle.load.specs.Code.ByColumn.{rowsCosting, rowAt, rowsBy, FineColumns}
+use Rattle.load.specs.Code.Rows.{noRow, noFrac}
+use Rattle.load.proofs.Load.{boundsOf-length}
 use Rattle.load.proofs.Costing.{costing-demand}
 
 -- only the period, what a row costs with its blocking, and what the higher rows ask for count

@@ -28,7 +28,7 @@ use Rattle.load.specs.declared.Rows.{Rows}
 use Rattle.load.specs.declared.Weighed.{Weighed}
 use Rattle.load.specs.Load.{boundOf, boundsOf, loadOf, loadRow}
 use Rattle.load.specs.Weigh.{rowInRange, hasTime, weighQuestions, weighed, weighOf, rowsOf, structQuestions, weighRows}
-use Rattle.load.specs.Code.{noRow, noFrac, InRange, FineBound, FineBounds}
+use Rattle.load.specs.Code.Rows.{noRow, noFrac, InRange, FineBound, FineBounds}
 use Rattle.load.proofs.Load.{boundOf-ok, boundOf-small, boundsOf-length}
 use Rattle.load.proofs.InRange.{in-range-fine}
 

@@ -1,4 +1,3 @@
 pub mod Load
 pub mod Weigh
-pub mod ByColumn
 pub mod Code

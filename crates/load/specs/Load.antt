@@ -1,5 +1,6 @@
 -- The system test and the load (document 001, equations 4 to 9) of a list of rows, lowest priority first.
 --   demandOf rows t == Σ ⌈t/P_k⌉×(Q_k+X_k) over these rows
+--   heldBelow lower == the greatest X of these lower rows; 0 if there are none
 --   loadAt lower s higher t == L(t) = Q_s + X_s + Σ ⌈t/P_k⌉×(Q_k+X_k) over higher rows k, plus the greatest X of lower rows
 --   rowPasses lower s higher == some t, 1 ≤ t ≤ P_s, has L(t) ≤ t
 --   passesSystem rows == every row passes
@@ -30,8 +31,11 @@ rowSum r = r .budget + r .holding
 unfoldable pub demandOf : List Row → ℕ → ℕ
 demandOf rows t = sum (map (λ k. ceilDiv t (k .period) * rowSum k) rows)
 
+abbrev pub heldBelow : List Row → ℕ
+heldBelow lower = greatest (map (λ k. k .holding) lower)
+
 unfoldable pub loadAt : List Row → Row → List Row → ℕ → ℕ
-loadAt lower s higher t = rowSum s + demandOf higher t + greatest (map (λ k. k .holding) lower)
+loadAt lower s higher t = rowSum s + demandOf higher t + heldBelow lower
 
 unfoldable pub rowPasses : List Row → Row → List Row → Bool
 rowPasses lower s higher = anyUpTo (λ t. leb (loadAt lower s higher t) t) (s .period)

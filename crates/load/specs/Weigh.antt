@@ -4,11 +4,10 @@
 --   weighQuestions rows == questions 12 (0 for a wrong row count, else the first bad row) and 13 (first row without a time t)
 --   weighOf rows == the answer, for every list of rows
 --   rowsOf rows  == the rows that the struct `Rows` holds
---   rowsFrom rows n == these rows in the struct `Rows`, with the count n
 --   structQuestions rows == the questions of such a struct: a count above its sixteen places is a wrong row count too
 --   weighRows rows == the answer, for every such struct
 -- Assumes nothing.
-use Prim.Native.Nat.{ℕ, _≤_}
+use Prim.Native.Nat.{_≤_}
 use mathlib.Core.Bool.{Bool, not, _&&_}
 use mathlib.Core.List.{List, [], _∷_}
 use lib.Dec.{leb}
@@ -24,7 +23,7 @@ use Rattle.refusal.specs.Questions.{Question, ask, firstNo}
 use Rattle.load.specs.declared.Row.{Row}
 use Rattle.load.specs.declared.Rows.{Rows}
 use Rattle.load.specs.declared.Weighed.{Weighed}
-use Rattle.load.specs.Load.{row, boundsOf, loadOf, loadRow}
+use Rattle.load.specs.Load.{boundsOf, loadOf, loadRow}
 
 pub record RowFits (r : Row) : Type 0 where
   pub budget-some : 1 ≤ r .budget
@@ -55,9 +54,6 @@ weighOf rows = weighed (firstNo (weighQuestions rows)) rows
 
 unfoldable pub rowsOf : Rows → List Row
 rowsOf rows = take (rows .count) (rows .rows)
-
-abbrev pub rowsFrom : List Row → ℕ → Rows
-rowsFrom rows n = record { rows = pad rowLimit (row 0 0 0) rows; count = n }
 
 unfoldable pub structQuestions : Rows → List Question
 structQuestions rows = ask (BadHandSet 0) (leb (rows .count) rowLimit) ∷ weighQuestions (rowsOf rows)

@@ -4,6 +4,7 @@ use least::Frac;
 use least::Least;
 use refusal::NUMBER_LIMIT;
 use refusal::Outcome;
+use refusal::ROW_LIMIT;
 use refusal::Refusal;
 ghost use mathlib.Core.Path.{_≡_};
 ghost use mathlib.Core.Bool.{not};
@@ -12,13 +13,13 @@ ghost use Prim.Native.Nat.{_≤_};
 ghost use lib.ListN.{length, drop, take};
 ghost use Rattle.least.specs.Lists.{firstOf, pad};
 ghost use Rattle.least.specs.Fraction.{frac, atMost, greatestOf};
-ghost use Rattle.refusal.specs.Limits.{numberLimit};
-ghost use Rattle.demand.specs.Demand.{FineDemand};
+ghost use Rattle.refusal.specs.Limits.{numberLimit, rowLimit};
+ghost use Rattle.demand.specs.Code.Demand.{FineDemand};
 ghost use Rattle.refusal.specs.declared.Outcome.the-variants.{Refused};
 ghost use Rattle.load.specs.Load.{row, rowSum, boundOf, boundsOf};
 ghost use Rattle.load.specs.Weigh.{rowInRange, hasTime, weighed, weighOf, rowsOf, weighRows};
-ghost use Rattle.load.specs.ByColumn.{rowsCosting, rowsBy, ownLimit, FineColumns, LowerIs};
-ghost use Rattle.load.specs.Code.{noFrac, FineRows, ColumnsAre, InRange, FineBounds};
+ghost use Rattle.load.specs.Code.ByColumn.{rowsCosting, rowsBy, ownLimit, FineColumns, LowerIs};
+ghost use Rattle.load.specs.Code.Rows.{noFrac, FineRows, ColumnsAre, InRange, FineBounds};
 
 // A row: a period P, a budget Q and a holding time X.
 #[repr(C)]
@@ -163,7 +164,7 @@ pub fn bounds_of(
     n: usize,
 ) -> [Frac; 16]
     requires { ⌜ FineColumns (now periods) (now sums) (now holdings) n ⌝ }
-    ensures { λ r. ⌜ r ≡ pad 16 noFrac (boundsOf (rowsBy (now (periods .entry)) (now (sums .entry)) (now (holdings .entry)) n)) ⌝ }
+    ensures { λ r. ⌜ r ≡ pad rowLimit noFrac (boundsOf (rowsBy (now (periods .entry)) (now (sums .entry)) (now (holdings .entry)) n)) ⌝ }
 {
     let mut bounds = [Frac { num: 0, den: 0 }; 16];
     let mut blocking: u64 = 0;
@@ -235,7 +236,7 @@ fn row_in_range(r: Row) -> bool
 
 // The number of the first row that may not be weighed; 0 where there is none.
 fn first_bad(rows: Rows) -> usize
-    requires { ⌜ (rows .count ≤ 16) × (rows .count ≤ length (rows .rows)) ⌝ }
+    requires { ⌜ (rows .count ≤ rowLimit) × (rows .count ≤ length (rows .rows)) ⌝ }
     ensures { λ k. ⌜ k ≡ firstOf (λ r. not (rowInRange r)) (rowsOf rows) ⌝ }
 {
     let n = rows.count;
@@ -253,7 +254,7 @@ fn first_bad(rows: Rows) -> usize
 
 // The number of the first of n bounds behind which there is no time; 0 where there is none.
 fn first_late(bounds: [Frac; 16], n: usize) -> usize
-    requires { ⌜ (n ≤ 16) × (n ≤ length bounds) ⌝ }
+    requires { ⌜ (n ≤ rowLimit) × (n ≤ length bounds) ⌝ }
     ensures { λ k. ⌜ k ≡ firstOf (λ b. not (hasTime b)) (take n bounds) ⌝ }
 {
     let mut k = 0;
@@ -269,7 +270,7 @@ fn first_late(bounds: [Frac; 16], n: usize) -> usize
 
 // The number of the first of n bounds that reaches the greatest.
 fn greatest_row(bounds: [Frac; 16], n: usize) -> usize
-    requires { ⌜ FineBounds bounds n × (1 ≤ n) × (n ≤ 16) ⌝ }
+    requires { ⌜ FineBounds bounds n × (1 ≤ n) × (n ≤ rowLimit) ⌝ }
     ensures { λ k. ⌜ k ≡ firstOf (atMost (greatestOf (take n bounds))) (take n bounds) ⌝ }
 {
     let mut j = 0;
@@ -330,7 +331,7 @@ pub fn weigh(rows: Rows) -> Weighed
     if n < 1 {
         return refused(Refusal::BadHandSet(0));
     }
-    if 16 < n {
+    if ROW_LIMIT < n {
         return refused(Refusal::BadHandSet(0));
     }
     let bad = first_bad(rows);

@@ -2,21 +2,20 @@
 use fields::Number;
 use plan_file::Entry;
 use plan_file::Names;
+use refusal::LOCK_LIMIT;
 use refusal::Refusal;
 use stretch::Span;
 use task_set::Task;
 ghost use mathlib.Core.Path.{_≡_};
 ghost use Prim.Native.Nat.{_≤_};
-ghost use Rattle.plan_file.specs.Entries.{FineNames, useAt, lockEntry};
-
-// The greatest number of different lock names in a part.
-const LOCK_LIMIT: usize = 8;
+ghost use Rattle.refusal.specs.Limits.{lockLimit};
+ghost use Rattle.plan_file.specs.Code.Entries.{FineNames, useAt, lockEntry};
 
 // How long a task holds the lock at the place j of its part; 0 where it does not use it.
 fn use_at(task: Task, j: usize) -> u64
     ensures { λ r. ⌜ r ≡ useAt task j ⌝ }
 {
-    if 8 <= j {
+    if LOCK_LIMIT <= j {
         return 0;
     }
     let uses = task.uses;
@@ -32,7 +31,7 @@ pub fn ask_lock(
     name: Span,
     held: Span,
 ) -> Entry
-    requires { ⌜ FineNames locks × (locks .count ≤ 8) ⌝ }
+    requires { ⌜ FineNames locks × (locks .count ≤ lockLimit) ⌝ }
     ensures { λ r. ⌜ r ≡ lockEntry (now (s .entry)) line allowed last locks name held ⌝ }
 {
     if !allowed {

@@ -4,11 +4,13 @@ use Prim.Native.Nat.{ℕ, _+_, _*_, _≤_, _<_}
 use native.Mathlib.Omega.{arith}
 use native.Mathlib.Decide.{ℕ-discrete}
 use mathlib.Core.Path.{_≡_, ap, _∙_}
+use mathlib.Core.Logic.{inl}
 use mathlib.Core.List.{List}
 use lib.ListN.{length, getD, set, length-set}
 use lib.Seq.{getD-set-same, getD-set-other}
 use Rattle.least.proofs.Pad.{getD-pad}
-use Rattle.task_set.specs.Tasks.{tasksOf}
+use Rattle.refusal.specs.Limits.{keptLimit}
+use Rattle.task_set.specs.Code.Partition.{partitionOf}
 use Rattle.task_set.proofs.Places.{tasks-length}
 use Rattle.task_set.proofs.ByLock.{lowest-some}
 use Rattle.candidates.specs.declared.Pair.{Pair}
@@ -16,12 +18,12 @@ use Rattle.candidates.specs.declared.Kept.{Kept}
 use Rattle.candidates.specs.Candidates.{pair, keptAnswer}
 use Rattle.candidates.proofs.Count.{kept-121}
 use Rattle.reader.specs.declared.PlanFile.{PlanFile}
-use Rattle.offers.specs.Gathered.{partIn, listIn, FineParts, budgetIn, holdingIn, Stored, OfferedAt}
+use Rattle.offers.specs.Code.Gathered.{partIn, listIn, FineParts, budgetIn, holdingIn, Stored, OfferedAt}
 
-pub list-most : (f : PlanFile) → FineParts f → (k : ℕ) → k < f .count → length (listIn f k) ≤ 121
+pub list-most : (f : PlanFile) → FineParts f → (k : ℕ) → k < f .count → length (listIn f k) ≤ keptLimit
 list-most f fine k h =
     let p = fine .fine k h in
-    kept-121 (partIn f k .period) (tasksOf (partIn f k)) (partIn f k .locks) (lowest-some (partIn f k) p) (p .few-locks) (omega (arith, tasks-length (partIn f k) p, p .few))
+    kept-121 (partitionOf (partIn f k)) (lowest-some (partIn f k) p) (p .few-locks) (omega (arith, tasks-length (partIn f k) p, p .few))
 
 -- the parts up to the place k are there
 pub record GatheredTo (f : PlanFile) (periods counts budgets holdings : List ℕ) (k : ℕ) : Type 0 where
@@ -41,7 +43,7 @@ module _ (f : PlanFile) (fine : FineParts f) where
 
     pair-is : (i : ℕ) → i < length (listIn f k) → getD (kept .pairs) i (pair 0 0) ≡ getD (listIn f k) i (pair 0 0)
     unfolding keptAnswer
-    pair-is i l = ap (λ (x : Kept). getD (x .pairs) i (pair 0 0)) is ∙ getD-pad 121 (pair 0 0) (listIn f k) i (omega (arith, list-most f fine k h))
+    pair-is i l = ap (λ (x : Kept). getD (x .pairs) i (pair 0 0)) is ∙ getD-pad keptLimit (pair 0 0) (listIn f k) i (omega (arith, list-most f fine k h))
 
     here : OfferedAt f (set periods k (partIn f k .period)) (set counts k (kept .count)) after held k
     here = record {
@@ -60,8 +62,8 @@ module _ (f : PlanFile) (fine : FineParts f) where
           period = getD-set-other periods k j (partIn f k .period) 0 (λ q. absurd (omega arith)) ∙ o .period;
           count = getD-set-other counts k j (kept .count) 0 (λ q. absurd (omega arith)) ∙ o .count;
           some = o .some;
-          budgets-are = λ i u. bs .others (121 * j + i) (omega (arith, list-most f fine j (omega arith))) ∙ o .budgets-are i u;
-          holdings-are = λ i u. hs .others (121 * j + i) (omega (arith, list-most f fine j (omega arith))) ∙ o .holdings-are i u;
+          budgets-are = λ i u. bs .others (keptLimit * j + i) (inl (omega (arith, list-most f fine j (omega arith)))) ∙ o .budgets-are i u;
+          holdings-are = λ i u. hs .others (keptLimit * j + i) (inl (omega (arith, list-most f fine j (omega arith)))) ∙ o .holdings-are i u;
         }
 
     pub gather-step : GatheredTo f (set periods k (partIn f k .period)) (set counts k (kept .count)) after held (k + 1)

@@ -11,18 +11,19 @@ use Rattle.least.proofs.Lists.{map-same, count-from}
 use Rattle.least.proofs.Columns.{column-length, column-get}
 use Rattle.least.proofs.Members.{getD-member}
 use Rattle.least.proofs.Pairwise.{Pairwise}
-use Rattle.task_set.specs.Tasks.{tasksOf}
+use Rattle.task_set.specs.Code.Partition.{partitionOf}
+use Rattle.load.specs.Load.{row}
+use Rattle.load.specs.Code.Rows.{FineRow}
+use Rattle.budget.proofs.Passing.{budget-iff}
+use Rattle.selection.specs.Code.Choosing.{offerAt, offersOf, FineOffers}
 use Rattle.candidates.specs.Candidates.{pair}
 use Rattle.candidates.proofs.Candidates.{kept-iff}
 use Rattle.candidates.proofs.Walk.{Behind, kept-ordered}
 use Rattle.candidates.proofs.Turn.{candidate-small}
-use Rattle.budget.proofs.Passing.{budget-iff}
-use Rattle.load.specs.Load.{row}
-use Rattle.load.specs.Code.{FineRow}
-use Rattle.selection.specs.Code.{offerAt, offersOf, FineOffers}
 use Rattle.reader.specs.declared.PlanFile.{PlanFile}
-use Rattle.offers.specs.Gathered.{partIn, listIn, FineParts, OfferedAt}
-use Rattle.offers.specs.Least.{partRows, rowsIn}
+use Rattle.answers.specs.Parts.{keptRows}
+use Rattle.offers.specs.Code.Gathered.{partIn, listIn, FineParts, OfferedAt}
+use Rattle.offers.proofs.ByPlace.{partRows, rowsIn}
 use Rattle.offers.proofs.Gathering.{list-most}
 
 -- two neighbours in a list
@@ -40,7 +41,7 @@ module _ (f : PlanFile) (fine : FineParts f) (periods counts budgets holdings : 
       λ j. record { period = o .period j; budget = o .budgets-are i l j; holding = o .holdings-are i l j }
 
   part-offers : (k : ℕ) → k < f .count → map (offerAt periods budgets holdings k) (countFrom 0 (getD counts k 0)) ≡ partRows f k
-  unfolding partRows
+  unfolding keptRows
   part-offers k h =
       rw (all k h .count)
       (ext-getD (row (partIn f k .period) 0 0) _ _
@@ -50,19 +51,19 @@ module _ (f : PlanFile) (fine : FineParts f) (periods counts budgets holdings : 
       column-get (offerAt periods budgets holdings k) (row (partIn f k .period) 0 0) i (length (listIn f k)) m ∙ offer-is k i h m ∙ sym (List·getD-map (λ c. row (partIn f k .period) (c .budget) (c .holding)) (listIn f k) i (pair 0 0))))
 
   pub offers-are : offersOf periods budgets holdings counts (f .count) ≡ rowsIn f
-  unfolding offersOf rowsIn
+  unfolding offersOf
   offers-are = map-same _ _ (countFrom 0 (f .count)) (λ k m. part-offers k (omega (arith, count-from (f .count) 0 k m .1)))
 
   -- a kept pair's numbers
   kept-fine : (k i : ℕ) → (h : k < f .count) → i < length (listIn f k) → FineRow (row (partIn f k .period) (getD (listIn f k) i (pair 0 0) .budget) (getD (listIn f k) i (pair 0 0) .holding))
   kept-fine k i h l =
-      let c = kept-iff (partIn f k .period) (tasksOf (partIn f k)) (partIn f k .locks) _ .0 (getD-member (listIn f k) i (pair 0 0) l) .candidate in
+      let c = kept-iff (partitionOf (partIn f k)) _ .0 (getD-member (listIn f k) i (pair 0 0) l) .candidate in
       let s = candidate-small (partIn f k) (fine .fine k h) _ c in
-      let b = budget-iff (partIn f k .period) (tasksOf (partIn f k)) (partIn f k .locks) (c .setting) _ .0 (c .budget) in
+      let b = budget-iff (partitionOf (partIn f k)) (c .setting) _ .0 (c .budget) in
       record { period-some = fine .period-some k h; period-most = fine .period-most k h; budget-some = b .0 .positive; budget-most = omega (arith, s .0, fine .period-most k h); holding-most = s .1 }
 
   in-order : (k i : ℕ) → k < f .count → suc i < length (listIn f k) → Behind (getD (listIn f k) i (pair 0 0)) (getD (listIn f k) (suc i) (pair 0 0))
-  in-order k i h l = neighbours (pair 0 0) (listIn f k) (kept-ordered (partIn f k .period) (tasksOf (partIn f k)) (partIn f k .locks)) i l
+  in-order k i h l = neighbours (pair 0 0) (listIn f k) (kept-ordered (partitionOf (partIn f k))) i l
 
   pub offers-fine : 1 ≤ f .count → FineOffers periods budgets holdings counts (f .count)
   offers-fine some = record {

@@ -1,45 +1,48 @@
-// The kept lists of all parts of a file, as rows to choose from: the pair at the place i of the part k, both from 0, at 121 k + i.
+// The kept lists of all parts of a file, as rows to choose from: the pair at the place i of the part k, both from 0, at KEPT_LIMIT × k + i.
 use candidates::Kept;
 use envelope::SCALE;
 use load::Row;
 use load::Rows;
 use reader::PlanFile;
+use refusal::KEPT_LIMIT;
+use refusal::OFFER_PLACES;
 use refusal::Outcome;
 use refusal::Refusal;
 ghost use mathlib.Core.Path.{_≡_};
 ghost use mathlib.Core.Bool.{true};
 ghost use Prim.Native.Nat.{_≤_, _<_};
 ghost use lib.ListN.{length};
-ghost use Rattle.load.specs.ByColumn.{rowsBy, FineColumns};
-ghost use Rattle.load.specs.Weigh.{rowsFrom};
-ghost use Rattle.offers.specs.Gathered.{FineParts, budgetIn, holdingIn, Stored, MissingIs, Gathered, isOver};
-ghost use Rattle.offers.specs.Least.{noRows, planRowsOf};
+ghost use Rattle.refusal.specs.Limits.{partLimit, keptLimit};
+ghost use Rattle.refusal.specs.Code.Limits.{offerPlaces};
+ghost use Rattle.load.specs.Code.ByColumn.{rowsBy, FineColumns};
+ghost use Rattle.load.specs.Code.Weigh.{rowsFrom};
+ghost use Rattle.answers.specs.Plan.{chosenRows};
+ghost use Rattle.offers.specs.Code.Gathered.{FineParts, budgetIn, holdingIn, Stored, MissingIs, Gathered, isOver};
+ghost use Rattle.offers.specs.Code.Least.{noRows, partitionsIn, planRowsFrom};
 
 // The pairs of the part k at its places.
 fn store(kept: Kept, k: usize, budgets: &mut [u64], holdings: &mut [u64])
-    requires { ⌜ (k < 16) × (kept .count ≤ 121) × (length (now budgets) ≡ 1936) × (length (now holdings) ≡ 1936) ⌝ }
+    requires { ⌜ (k < partLimit) × (kept .count ≤ keptLimit) × (length (now budgets) ≡ offerPlaces) × (length (now holdings) ≡ offerPlaces) ⌝ }
     ensures { λ r. ⌜ Stored (budgetIn kept) k (kept .count) (now (budgets .entry)) (now (budgets .exit)) × Stored (holdingIn kept) k (kept .count) (now (holdings .entry)) (now (holdings .exit)) ⌝ }
 {
     let n = kept.count;
     let mut i = 0;
     while i < n {
         let pair = kept.pairs[i];
-        let at = 121 * k + i;
+        let at = KEPT_LIMIT * k + i;
         budgets[at] = pair.budget;
         holdings[at] = pair.holding;
         i += 1;
     }
 }
 
-// The rows that each part offers: its period, the count of its kept pairs, and the pairs; and the number of the first part without one, from 1, or 0. Or the tasks
-// of all parts together ask for more than the processor: no choice passes then.
+// The rows that each part offers: its period, the count of its kept pairs, and the pairs; and the number of the first part without one, from 1, or 0.
 pub struct Offers {
-    pub over: bool,
     pub missing: usize,
     pub periods: [u64; 16],
     pub counts: [usize; 16],
-    pub budgets: [u64; 1936],
-    pub holdings: [u64; 1936],
+    pub budgets: [u64; OFFER_PLACES],
+    pub holdings: [u64; OFFER_PLACES],
 }
 
 pub fn offers_of(f: PlanFile) -> Offers
@@ -48,20 +51,13 @@ pub fn offers_of(f: PlanFile) -> Offers
 {
     let mut periods = [0u64; 16];
     let mut counts = [0usize; 16];
-    let mut budgets = [0u64; 1936];
-    let mut holdings = [0u64; 1936];
+    let mut budgets = [0u64; OFFER_PLACES];
+    let mut holdings = [0u64; OFFER_PLACES];
     let mut missing = 0;
-    let mut over = false;
-    let mut share: u64 = 0;
     let mut k = 0;
     while k < f.count {
         let p = f.parts[k];
         let part = p.part;
-        share += utilisation::share_of(part);
-        if SCALE < share {
-            over = true;
-            break;
-        }
         let kept = candidates::kept_of(part);
         let count = kept.count;
         if count == 0 {
@@ -74,7 +70,6 @@ pub fn offers_of(f: PlanFile) -> Offers
         k += 1;
     }
     Offers {
-        over,
         missing,
         periods,
         counts,
@@ -112,7 +107,8 @@ pub struct PlanRows {
     pub rows: Rows,
 }
 
-fn no_rows(r: Refusal) -> PlanRows
+// A refusal, and no rows.
+pub fn no_rows(r: Refusal) -> PlanRows
     ensures { λ x. ⌜ x ≡ noRows r ⌝ }
 {
     let none = Row {
@@ -146,10 +142,25 @@ fn first_missing(f: PlanFile) -> usize
     0
 }
 
+// Whether the tasks of all parts together ask for more than the processor: no choice passes then.
+fn is_over(f: PlanFile) -> bool
+    requires { ⌜ FineParts f ⌝ }
+    ensures { λ r. ⌜ r ≡ isOver f ⌝ }
+{
+    let mut share: u64 = 0;
+    let mut k = 0;
+    while k < f.count {
+        let p = f.parts[k];
+        share += utilisation::share_of(p.part);
+        k += 1;
+    }
+    SCALE < share
+}
+
 // Questions 10 and 11 where the parts ask for more than the processor: no kept list is needed.
 fn over_rows(f: PlanFile) -> PlanRows
     requires { ⌜ FineParts f × (isOver f ≡ true) ⌝ }
-    ensures { λ r. ⌜ r ≡ planRowsOf f ⌝ }
+    ensures { λ r. ⌜ r ≡ planRowsFrom (chosenRows (partitionsIn f)) ⌝ }
 {
     let number = first_missing(f);
     if 0 < number {
@@ -161,22 +172,21 @@ fn over_rows(f: PlanFile) -> PlanRows
 // Questions 10 and 11 of a file that was read, and the rows of least load.
 pub fn plan_rows(f: PlanFile) -> PlanRows
     requires { ⌜ FineParts f × (1 ≤ f .count) ⌝ }
-    ensures { λ r. ⌜ r ≡ planRowsOf f ⌝ }
+    ensures { λ r. ⌜ r ≡ planRowsFrom (chosenRows (partitionsIn f)) ⌝ }
 {
     let n = f.count;
-    let offers = offers_of(f);
-    if offers.over {
+    if is_over(f) {
         return over_rows(f);
     }
+    let offers = offers_of(f);
     let missing = offers.missing;
     if missing != 0 {
         return no_rows(Refusal::NoBudget(missing as u64));
     }
     let periods = offers.periods;
     let counts = offers.counts;
-    let budgets = offers.budgets;
     let holdings = offers.holdings;
-    let choice = selection::select(&periods, &budgets, &holdings, &counts, n);
+    let choice = selection::select(&periods, &offers.budgets, &holdings, &counts, n);
     if !choice.found {
         return no_rows(Refusal::NoChoice);
     }

@@ -2,13 +2,11 @@
 use fields::Number;
 use plan_file::Entry;
 use plan_file::Names;
+use refusal::PART_LIMIT;
 use refusal::Refusal;
 use stretch::Span;
 ghost use mathlib.Core.Path.{_≡_};
-ghost use Rattle.plan_file.specs.Entries.{FineNames, partEntry};
-
-// The greatest number of parts.
-const PART_LIMIT: usize = 16;
+ghost use Rattle.plan_file.specs.Code.Entries.{FineNames, partEntry};
 
 pub fn ask_part(s: &[u8], line: u64, allowed: bool, parts: Names, name: Span, period: Span) -> Entry
     requires { ⌜ FineNames parts ⌝ }

@@ -2,6 +2,7 @@
 // prints no answer, and where the answer cannot be written it does not end in silence: one line on standard error says so.
 use libc::STDIN_FILENO;
 use libc::STDOUT_FILENO;
+use refusal::FILE_LIMIT;
 use stretch::Span;
 ghost use Prim.Native.Nat.{_≤_};
 ghost use lib.ListN.{length};
@@ -89,17 +90,16 @@ fn write_all(fd: i32, buf: &[u8]) -> bool {
 // Prints what is printed of a file, and answers whether all of it was taken.
 fn print_plan(file: &[u8]) -> bool {
     let p = console::print(file);
-    let text = p.text;
     let span = Span {
         start: 0,
         len: p.count,
     };
-    write_all(STDOUT_FILENO, stretch::bytes(&text, span)) && libc::close(STDOUT_FILENO) == 0
+    write_all(STDOUT_FILENO, stretch::bytes(&p.text, span)) && libc::close(STDOUT_FILENO) == 0
 }
 
 fn main() {
     // One byte more than a file may have: a longer one is refused whatever follows.
-    let mut file = [0u8; 32769];
+    let mut file = [0u8; FILE_LIMIT + 1];
     let r = read_all(STDIN_FILENO, &mut file);
     let n = r.count;
     if !r.is_whole {

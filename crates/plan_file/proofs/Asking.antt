@@ -16,13 +16,14 @@ use Rattle.refusal.specs.Questions.{firstNo}
 use Rattle.stretch.specs.declared.Span.{Span}
 use Rattle.stretch.specs.Stretch.{bytesOf}
 use Rattle.fields.specs.declared.Number.the-variants.{Is, Malformed as MalformedNumber}
-use Rattle.fields.specs.Fields.{isName, isNumber, numberIn}
+use Rattle.fields.specs.Fields.{isName, isNumber}
+use Rattle.fields.specs.Code.Fields.{numberIn}
 use Rattle.task_set.specs.declared.Task.{Task as TaskNumbers}
 use Rattle.plan_file.specs.declared.Names.{Names}
 use Rattle.plan_file.specs.declared.Times.the-variants.{Are, Malformed}
 use Rattle.plan_file.specs.declared.Entry.the-variants.{Part, Task, Lock, Refused as RefusedEntry}
 use Rattle.plan_file.specs.Reading.{partQuestions, taskQuestions, lockQuestions}
-use Rattle.plan_file.specs.Entries.{namesOf, FineNames, placeAmong, timesIn, entryIf, partEntry, taskEntry, useAt, lockEntry}
+use Rattle.plan_file.specs.Code.Entries.{namesOf, FineNames, placeAmong, timesIn, entryIf, partEntry, taskEntry, useAt, lockEntry}
 use Rattle.plan_file.proofs.Places.{among-place, mention-limit, names-length}
 
 -- a number field that was read

@@ -15,10 +15,10 @@ use Rattle.text.proofs.Bytes.{same-refl}
 use Rattle.text.proofs.Names.{among-distinct}
 use Rattle.task_set.specs.declared.Task.{Task}
 use Rattle.task_set.specs.Tasks.{heldFor, greatestHeld}
-use Rattle.task_set.specs.Fine.{FineTask}
+use Rattle.task_set.specs.Code.Fine.{FineTask}
 use Rattle.plan_file.specs.Above.{FileLock, FileTask, FilePart, lockMentions, lockNames}
 use Rattle.plan_file.specs.Reading.{locksOf}
-use Rattle.plan_file.specs.Numbers.{heldUnder, taskIn, lockCount, tasksIn}
+use Rattle.plan_file.specs.Numbers.{heldUnder, taskIn, tasksIn}
 use Rattle.plan_file.proofs.SeenLocks.{held-none, held-here, held-later, known-held}
 use Rattle.plan_file.proofs.Fine.{FineFileTask, FineFilePart}
 
@@ -70,8 +70,8 @@ module _ (p : FilePart) (fine : FineFilePart p) where
       let t = joined-map-iff locksOf (n .0) (p .tasks) .0 (n .1) in
       (t .0, t .1, some-iff (same name) (locksOf (t .0)) .1 (n .0, t .2, n .2))
 
-  pub each-lock-used : (l : ℕ) → 1 ≤ l → l ≤ lockCount p → 1 ≤ greatestHeld l (tasksIn p)
-  unfolding lockCount tasksIn taskIn heldFor greatestHeld
+  pub each-lock-used : (l : ℕ) → 1 ≤ l → l ≤ length (lockNames p) → 1 ≤ greatestHeld l (tasksIn p)
+  unfolding tasksIn taskIn heldFor greatestHeld
   each-lock-used l h k =
       let name = nthOr [] l (lockNames p) in
       let t = mentioned name (nth-member [] l (lockNames p) h k) in

@@ -11,9 +11,9 @@ use borrow.Author.Tests.{not-true}
 use Rattle.least.specs.Lists.{nthOr, lastOr, onLast}
 use Rattle.least.proofs.Lists.{and-iff, nth-of-map}
 use Rattle.least.proofs.Last.{on-last-snoc}
-use Rattle.text.specs.Bytes.{Line, linesOf}
 use Rattle.refusal.specs.Questions.Answer.{answered}
 use Rattle.refusal.specs.FirstNo.{allYes}
+use Rattle.text.specs.Bytes.{Line, linesOf}
 use Rattle.scan.specs.Line.{lineIsGood}
 use Rattle.records.specs.Records.{Record, recordIn}
 use Rattle.records.specs.Records.Record.{part, task, lock, end, noRecord}
@@ -130,7 +130,7 @@ parts-by-lines n a (l ∷ ls) all e = go (isPart (recordIn l)) refl (parts-by-li
 pub read-by-part : (s : List ℕ) (ps : List FilePart) → readFile s ≡ answered ps → ps ≡ map partIn (linesByPart (linesOf s))
 read-by-part s ps e =
     let d = read-answered-iff s ps .0 e in
-    sym (d .are) ∙ parts-by-lines 1 nothingAbove (linesOf s) (d .yes) refl
+    sym (d .are) ∙ parts-by-lines 1 nothingAbove (linesOf s) (d .by .yes) refl
 
 -- the part k of a readable file is what its own lines say, whatever stands around them
 pub part-by-lines : (s : List ℕ) (ps : List FilePart) (k : ℕ) → readFile s ≡ answered ps → nthOr noPart k ps ≡ partIn (linesOfPart k s)

@@ -19,7 +19,8 @@ use Rattle.refusal.specs.Limits.{lockLimit}
 use Rattle.stretch.specs.declared.Span.{Span}
 use Rattle.stretch.specs.Stretch.{bytesOf}
 use Rattle.plan_file.specs.declared.Names.{Names}
-use Rattle.plan_file.specs.Entries.{noSpan, namesOf, FineNames, placeAmong}
+use Rattle.plan_file.specs.Stretches.{noSpan}
+use Rattle.plan_file.specs.Code.Entries.{namesOf, FineNames, placeAmong}
 
 -- the place of a name that comes first, and of one that comes later
 pub place-first : (name n : List ℕ) (ns : List (List ℕ)) → same name n ≡ true → placeAmong name (n ∷ ns) ≡ 0

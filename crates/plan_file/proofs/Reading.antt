@@ -11,21 +11,22 @@ use borrow.Author.Tests.{leb-true, leb-false, le-leb, lt-leb}
 use lib.Dec.{leb}
 use lib.ListN.{length}
 use Rattle.least.proofs.Lists.{and-iff}
-use Rattle.text.specs.Bytes.{Line, linesOf}
 use Rattle.refusal.specs.declared.Refusal.{Refusal}
 use Rattle.refusal.specs.declared.Refusal.the-variants.{FileTooLong, Misplaced}
 use Rattle.refusal.specs.declared.Outcome.{Outcome}
 use Rattle.refusal.specs.declared.Outcome.the-variants.{Done, Refused}
 use Rattle.refusal.specs.Limits.{fileLimit}
-use Rattle.refusal.specs.Questions.{firstNo, whenDone}
+use Rattle.refusal.specs.Questions.{Answer, firstNo, whenDone}
 use Rattle.refusal.specs.Questions.Answer.{answered, refused}
-use Rattle.refusal.proofs.Answers.{answered-not-refused, answer-same-value, answer-same-refusal}
 use Rattle.refusal.specs.FirstNo.{allYes}
+use Rattle.refusal.proofs.Answers.{answered-not-refused, answer-same-value, answer-same-refusal}
 use Rattle.refusal.proofs.Questions.{refused-iff, done-iff}
+use Rattle.text.specs.Bytes.{Line, linesOf}
 use Rattle.scan.specs.Line.{lineIsGood}
 use Rattle.records.specs.Records.{Record, recordIn}
 use Rattle.plan_file.specs.Above.{FilePart, Above, nothingAbove, after}
-use Rattle.plan_file.specs.Reading.{isEnd, recordQuestions, questionsAt, readLines, readFile}
+use Rattle.plan_file.specs.Reading.{isEnd, recordQuestions, questionsAt, readLines, readFrom, readFile}
+use Rattle.plan_file.specs.Numbers.{PlanPart, planParts, numbered, partsOf}
 use Rattle.plan_file.specs.Statement.{said, AllYes, StopsAt, RefusedAt, AnsweredBy}
 use Rattle.plan_file.specs.Statement.RefusedAt.{too-long, on-line, run-out}
 
@@ -114,35 +115,43 @@ passed n a (l ∷ ls) = go (firstNo (questionsAt n a l)) refl (passed (suc n) (a
     go (Refused r) e k = inr (r, stops-here n a l ls r e)
 
 -- a file that is too long is refused, another is its lines
-pub read-too-long : (s : List ℕ) → fileLimit < length s → readFile s ≡ refused FileTooLong
-unfolding readFile firstNo whenDone
-read-too-long s h = simp (lt-leb (length s) fileLimit h)
+pub read-too-long : (n : ℕ) (s : List ℕ) → fileLimit < length s → readFrom n s ≡ refused FileTooLong
+unfolding readFrom firstNo whenDone
+read-too-long n s h = simp (lt-leb (length s) fileLimit h)
 
-pub read-lines : (s : List ℕ) → length s ≤ fileLimit → readFile s ≡ readLines 1 nothingAbove (linesOf s)
-unfolding readFile firstNo whenDone
-read-lines s h = simp (le-leb (length s) fileLimit h)
+pub read-lines : (n : ℕ) (s : List ℕ) → length s ≤ fileLimit → readFrom n s ≡ readLines n nothingAbove (linesOf s)
+unfolding readFrom firstNo whenDone
+read-lines n s h = simp (le-leb (length s) fileLimit h)
 
 read-all : (s : List ℕ) → length s ≤ fileLimit → AllYes 1 nothingAbove (linesOf s) → readFile s ≡ readLines (1 + length (linesOf s)) (said nothingAbove (linesOf s)) []
-read-all s h p = read-lines s h ∙ (ap (readLines 1 nothingAbove) (sym (append-nil (linesOf s))) ∙ read-past 1 nothingAbove (linesOf s) [] p)
+read-all s h p = read-lines 1 s h ∙ (ap (readLines 1 nothingAbove) (sym (append-nil (linesOf s))) ∙ read-past 1 nothingAbove (linesOf s) [] p)
 
 refused-so : (s : List ℕ) (r : Refusal) → RefusedAt s r → readFile s ≡ refused r
-refused-so s r (too-long h e) = read-too-long s h ∙ ap refused (sym e)
+refused-so s r (too-long h e) = read-too-long 1 s h ∙ ap refused (sym e)
 refused-so s r (on-line h d) =
-    read-lines s h ∙ (ap (readLines 1 nothingAbove) (d .lines) ∙ (read-past 1 nothingAbove (d .before) (d .line ∷ d .behind) (d .yes) ∙ read-stop _ _ (d .line) (d .behind) r (refused-iff _ r .1 (d .no))))
+    read-lines 1 s h ∙ (ap (readLines 1 nothingAbove) (d .lines) ∙ (read-past 1 nothingAbove (d .before) (d .line ∷ d .behind) (d .yes) ∙ read-stop _ _ (d .line) (d .behind) r (refused-iff _ r .1 (d .no))))
 refused-so s r (run-out h p e q) = read-all s h p ∙ (read-run-out _ _ e ∙ ap refused (sym q))
 
-answered-so : (s : List ℕ) (ps : List FilePart) → AnsweredBy s ps → readFile s ≡ answered ps
-answered-so s ps d = read-all s (d .fits) (d .yes) ∙ (read-ended _ _ (d .ended) ∙ ap answered (d .are))
+-- a readable file, before its parts are numbered
+pub record ReadAs (s : List ℕ) (ps : List FilePart) : Type 0 where
+  pub by : AnsweredBy s (planParts ps)
+  pub are : said nothingAbove (linesOf s) .parts ≡ ps
+
+said-so : (s : List ℕ) (ps : List PlanPart) → AnsweredBy s ps → readFile s ≡ answered (said nothingAbove (linesOf s) .parts)
+said-so s ps d = read-all s (d .fits) (d .yes) ∙ read-ended _ _ (d .ended)
+
+answered-so : (s : List ℕ) (ps : List FilePart) → ReadAs s ps → readFile s ≡ answered ps
+answered-so s ps d = said-so s (planParts ps) (d .by) ∙ ap answered (d .are)
 
 -- every file is refused or answered
 abbrev Known : List ℕ → Type 0
-Known s = ((r : Refusal) × RefusedAt s r) ⊎ ((ps : List FilePart) × AnsweredBy s ps)
+Known s = ((r : Refusal) × RefusedAt s r) ⊎ ((ps : List FilePart) × ReadAs s ps)
 
 ends-known : (s : List ℕ) → length s ≤ fileLimit → AllYes 1 nothingAbove (linesOf s) → Known s
 ends-known s h p = go (isEnd (said nothingAbove (linesOf s) .directly)) refl
   where
     go : (b : Bool) → isEnd (said nothingAbove (linesOf s) .directly) ≡ b → Known s
-    go true e = inr (said nothingAbove (linesOf s) .parts, record { fits = h; yes = p; ended = e; are = refl })
+    go true e = inr (said nothingAbove (linesOf s) .parts, record { by = record { fits = h; yes = p; ended = e; are = refl }; are = refl })
     go false e = inl (Misplaced (1 + length (linesOf s)), run-out h p e refl)
 
 lines-known : (s : List ℕ) → length s ≤ fileLimit → Passed 1 nothingAbove (linesOf s) → Known s
@@ -163,13 +172,38 @@ read-refused-iff s r = (λ e. go e (file-known s), refused-so s r)
     go e (inl d) = subst (RefusedAt s) (answer-same-refusal (sym (refused-so s (d .0) (d .1)) ∙ e)) (d .1)
     go e (inr d) = absurd (answered-not-refused (sym (answered-so s (d .0) (d .1)) ∙ e))
 
-pub read-answered-iff : (s : List ℕ) (ps : List FilePart) → (readFile s ≡ answered ps) ↔ AnsweredBy s ps
+pub read-answered-iff : (s : List ℕ) (ps : List FilePart) → (readFile s ≡ answered ps) ↔ ReadAs s ps
 read-answered-iff s ps = (λ e. go e (file-known s), answered-so s ps)
   where
-    go : readFile s ≡ answered ps → Known s → AnsweredBy s ps
+    go : readFile s ≡ answered ps → Known s → ReadAs s ps
     go e (inl d) = absurd (answered-not-refused (sym e ∙ refused-so s (d .0) (d .1)))
-    go e (inr d) = subst (AnsweredBy s) (answer-same-value (sym (answered-so s (d .0) (d .1)) ∙ e)) (d .1)
+    go e (inr d) = subst (ReadAs s) (answer-same-value (sym (answered-so s (d .0) (d .1)) ∙ e)) (d .1)
+
+-- the same of the parts as they are numbered
+pub parts-refused-iff : (s : List ℕ) (r : Refusal) → (partsOf s ≡ refused r) ↔ RefusedAt s r
+unfolding numbered
+parts-refused-iff s r = (λ e. read-refused-iff s r .0 (go (readFile s) refl e), λ d. ap numbered (refused-so s r d))
+  where
+    go : (a : Answer (List FilePart)) → readFile s ≡ a → partsOf s ≡ refused r → readFile s ≡ refused r
+    go (answered ps) h e = absurd (answered-not-refused (sym (ap numbered h) ∙ e))
+    go (refused x) h e = h ∙ ap refused (answer-same-refusal (sym (ap numbered h) ∙ e))
+
+-- what was read behind the numbers
+pub parts-read : (s : List ℕ) (qs : List PlanPart) → partsOf s ≡ answered qs → (ps : List FilePart) × (readFile s ≡ answered ps) × (planParts ps ≡ qs)
+unfolding numbered
+parts-read s qs e = go (readFile s) refl
+  where
+    go : (a : Answer (List FilePart)) → readFile s ≡ a → (ps : List FilePart) × (readFile s ≡ answered ps) × (planParts ps ≡ qs)
+    go (answered ps) h = (ps, h, answer-same-value (sym (ap numbered h) ∙ e))
+    go (refused x) h = absurd (answered-not-refused (sym e ∙ ap numbered h))
+
+pub parts-answered-iff : (s : List ℕ) (qs : List PlanPart) → (partsOf s ≡ answered qs) ↔ AnsweredBy s qs
+unfolding numbered
+parts-answered-iff s qs = (to, λ d. ap numbered (said-so s qs d) ∙ ap answered (d .are))
+  where
+    to : partsOf s ≡ answered qs → AnsweredBy s qs
+    to e = let p = parts-read s qs e in subst (AnsweredBy s) (p .2) (read-answered-iff s (p .0) .0 (p .1) .by)
 
 pub read-keeps : (I : Above → Type 0) → ((n : ℕ) (a : Above) (r : Record) → I a → firstNo (recordQuestions n a r) ≡ Done → I (after a r)) → I nothingAbove
     → (s : List ℕ) (ps : List FilePart) → readFile s ≡ answered ps → I (said nothingAbove (linesOf s))
-read-keeps I keeps h s ps e = lines-keep I keeps 1 nothingAbove (linesOf s) h (read-answered-iff s ps .0 e .yes)
+read-keeps I keeps h s ps e = lines-keep I keeps 1 nothingAbove (linesOf s) h (read-answered-iff s ps .0 e .by .yes)

@@ -15,7 +15,7 @@ use Rattle.records.specs.Records.Record.{part, task, lock, end}
 use Rattle.plan_file.specs.declared.Seen.{Seen}
 use Rattle.plan_file.specs.Above.{FileLock, FileTask, FilePart, Above, noPart, nothingAbove, thisPart, thisTask, lockNames, withLock, withTasks, partsAfter, after}
 use Rattle.plan_file.specs.Reading.{isPart, isEnd, partNames, locksOf}
-use Rattle.plan_file.specs.Entries.{FineNames, FineSeen, noneSeen, namesOf, placeAmong, seenPart, seenTask, seenLock, seenEnd}
+use Rattle.plan_file.specs.Code.Entries.{FineNames, FineSeen, noneSeen, namesOf, placeAmong, seenPart, seenTask, seenLock, seenEnd}
 use Rattle.plan_file.proofs.Places.{names-length}
 use Rattle.plan_file.proofs.SeenNames.{names-with, fine-with, no-names, fine-none}
 use Rattle.plan_file.proofs.SeenTasks.{taskWith}

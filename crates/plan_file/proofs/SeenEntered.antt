@@ -20,13 +20,13 @@ use Rattle.records.specs.declared.Shape.{Shape}
 use Rattle.records.specs.declared.Shape.the-variants.{Part as PartShape, Task as TaskShape, Lock as LockShape, End as EndShape, Unknown}
 use Rattle.records.specs.Records.{Record}
 use Rattle.records.specs.Records.Record.{part, task, lock, end}
-use Rattle.records.specs.Cursor.{recordAs}
+use Rattle.records.specs.Code.Cursor.{recordAs}
 use Rattle.plan_file.specs.declared.Seen.{Seen}
 use Rattle.plan_file.specs.declared.Entry.{Entry}
 use Rattle.plan_file.specs.declared.Entry.the-variants.{Part, Task, Lock, End, Refused as RefusedEntry}
 use Rattle.plan_file.specs.Above.{FilePart, Above, noPart, thisPart, thisTask, lockNames}
 use Rattle.plan_file.specs.Reading.{notBehindEnd, notBehindPart, partAbove, taskAbove, allowedHere, recordQuestions, partNames, taskNames, locksOf}
-use Rattle.plan_file.specs.Entries.{namesOf, placeAmong, entryIf, entryOf}
+use Rattle.plan_file.specs.Code.Entries.{namesOf, placeAmong, entryIf, entryOf}
 use Rattle.plan_file.proofs.SeenPart.{task-count}
 use Rattle.plan_file.proofs.SeenAbove.{SeenIs, part-count}
 use Rattle.plan_file.proofs.SeenDone.{part-done, task-done, lock-done, end-done}

@@ -19,14 +19,14 @@ use Rattle.stretch.specs.Stretch.{bytesOf}
 use Rattle.records.specs.declared.Shape.{Shape}
 use Rattle.records.specs.declared.Shape.the-variants.{Part as PartShape, Task as TaskShape, Lock as LockShape, End as EndShape, Unknown}
 use Rattle.records.specs.Records.Record.{part}
-use Rattle.records.specs.Cursor.{recordAs}
+use Rattle.records.specs.Code.Cursor.{recordAs}
 use Rattle.task_set.specs.declared.Task.{Task as TaskNumbers}
 use Rattle.plan_file.specs.declared.Seen.{Seen}
 use Rattle.plan_file.specs.declared.Entry.{Entry}
 use Rattle.plan_file.specs.declared.Entry.the-variants.{Part, Task, Lock, End}
 use Rattle.plan_file.specs.Above.{FileTask, FilePart, Above, noTask, thisPart, thisTask, lockNames}
 use Rattle.plan_file.specs.Reading.{allowedHere, lockQuestions, recordQuestions, locksOf}
-use Rattle.plan_file.specs.Entries.{namesOf, placeAmong, useAt, entryIf, partEntry, taskEntry, lockEntry, endEntry, entryOf}
+use Rattle.plan_file.specs.Code.Entries.{namesOf, placeAmong, useAt, entryIf, partEntry, taskEntry, lockEntry, endEntry, entryOf}
 use Rattle.plan_file.proofs.SeenLocks.{known-held, lock-unmentioned}
 use Rattle.plan_file.proofs.SeenTasks.{Unused, padded, padded-use}
 use Rattle.plan_file.proofs.SeenPart.{lastTask, task-count, lock-count}

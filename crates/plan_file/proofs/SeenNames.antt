@@ -16,7 +16,8 @@ use Rattle.text.proofs.Names.{among-none, among-cons, mention-known, mention-ne
 use Rattle.stretch.specs.declared.Span.{Span}
 use Rattle.stretch.specs.Stretch.{bytesOf}
 use Rattle.plan_file.specs.declared.Names.{Names}
-use Rattle.plan_file.specs.Entries.{noSpan, noNames, FineNames, namesOf, placeAmong, withName, withLockName}
+use Rattle.plan_file.specs.Stretches.{noSpan}
+use Rattle.plan_file.specs.Code.Entries.{noNames, FineNames, namesOf, placeAmong, withName, withLockName}
 use Rattle.plan_file.proofs.Places.{place-first, place-later, place-most, among-place, names-length}
 
 -- the place of a name, by whether it is known

@@ -15,7 +15,7 @@ use Rattle.task_set.specs.declared.Task.{Task}
 use Rattle.plan_file.specs.declared.Names.{Names}
 use Rattle.plan_file.specs.Above.{FileLock, FileTask, FilePart, noTask, lockMentions, lockNames, withLock, withTasks}
 use Rattle.plan_file.specs.Reading.{taskNames, locksOf}
-use Rattle.plan_file.specs.Entries.{FineNames, noNames, noTaskRead, namesOf, placeAmong, withName, withLockName}
+use Rattle.plan_file.specs.Code.Entries.{FineNames, noNames, noTaskRead, namesOf, placeAmong, withName, withLockName}
 use Rattle.plan_file.proofs.Places.{names-length}
 use Rattle.plan_file.proofs.SeenNames.{names-with, fine-with, no-names, fine-none, names-lock, fine-lock}
 use Rattle.plan_file.proofs.SeenLocks.{AllHeld, lock-names-different, lock-names-task, lock-names-lock}

@@ -14,7 +14,7 @@ use Rattle.task_set.specs.declared.Task.{Task}
 use Rattle.plan_file.specs.Above.{FileLock, FileTask, withLock}
 use Rattle.plan_file.specs.Reading.{locksOf}
 use Rattle.plan_file.specs.Numbers.{heldUnder}
-use Rattle.plan_file.specs.Entries.{placeAmong, useAt}
+use Rattle.plan_file.specs.Code.Entries.{placeAmong, useAt}
 use Rattle.plan_file.proofs.SeenNames.{place-known, place-new, get-place, set-place, set-place-new}
 use Rattle.plan_file.proofs.SeenLocks.{held-none, held-unknown, held-snoc-other, held-snoc-new}
 

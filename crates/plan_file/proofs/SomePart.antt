@@ -35,4 +35,4 @@ pub read-some : (s : List ℕ) (ps : List FilePart) → readFile s ≡ answered 
 unfolding isEnd
 read-some s ps e =
     let d = read-answered-iff s ps .0 e in
-    rw (d .are) at (read-keeps PartSeen (λ n a r seen. record-seen n a r) (λ h. absurd (false≢true h)) s ps e (d .ended))
+    rw (d .are) at (read-keeps PartSeen (λ n a r seen. record-seen n a r) (λ h. absurd (false≢true h)) s ps e (d .by .ended))

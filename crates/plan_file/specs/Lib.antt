@@ -1,7 +1,7 @@
 pub mod Above
 pub mod Reading
 pub mod Stretches
-pub mod Statement
 pub mod Numbers
+pub mod Statement
 pub mod PartLines
-pub mod Entries
+pub mod Code

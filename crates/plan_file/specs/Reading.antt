@@ -2,7 +2,8 @@
 --   allowedHere a r  == question 4: the record r is allowed behind the lines above
 --   questionsAt n a l == questions 2 to 9 of the line l, which has the number n
 --   readLines n a ls == the lines ls, the first of which has the number n, behind what stands above
---   readFile s       == the parts of the file s, or the refusal of its first question with a no
+--   readFrom n s     == the parts of the file s, whose first line has the number n, or the refusal of its first question with a no
+--   readFile s       == the same of a file by itself: its lines are numbered from 1
 -- A file is readable if `readFile` answers.
 -- Assumes nothing.
 use Prim.Native.Nat.{ℕ, suc}
@@ -11,13 +12,13 @@ use mathlib.Core.List.{List, [], _∷_, map}
 use lib.Dec.{leb}
 use lib.ListN.{length}
 use Rattle.least.specs.Lists.{isEmpty}
-use Rattle.text.specs.Bytes.{Line, linesOf, among, mention}
-use Rattle.text.specs.Decimal.{valueOf}
 use Rattle.refusal.specs.declared.Outcome.the-variants.{Done, Refused}
 use Rattle.refusal.specs.declared.Refusal.the-variants.{FileTooLong, BadLine, BadRecord, Misplaced, BadName, KnownName, BadNumber, BadOrder, TooMany}
 use Rattle.refusal.specs.Limits.{fileLimit, partLimit, taskLimit, lockLimit}
 use Rattle.refusal.specs.Questions.{Question, ask, firstNo, Answer, whenDone}
 use Rattle.refusal.specs.Questions.Answer.{answered, refused}
+use Rattle.text.specs.Bytes.{Line, linesOf, among, mention}
+use Rattle.text.specs.Decimal.{valueOf}
 use Rattle.scan.specs.Line.{lineIsGood}
 use Rattle.fields.specs.Fields.{isName, isNumber}
 use Rattle.records.specs.Records.{Record, recordIn}
@@ -118,5 +119,8 @@ unfoldable pub readLines : ℕ → Above → List Line → Answer (List FilePart
 readLines n a [] = cond (isEnd (a .directly)) (answered (a .parts)) (refused (Misplaced n))
 readLines n a (l ∷ ls) = elim (firstNo (questionsAt n a l)) [ Done ↦ readLines (suc n) (after a (recordIn l)) ls | Refused r ↦ refused r ]
 
-unfoldable pub readFile : List ℕ → Answer (List FilePart)
-readFile s = whenDone (firstNo (ask FileTooLong (leb (length s) fileLimit) ∷ [])) (readLines 1 nothingAbove (linesOf s))
+unfoldable pub readFrom : ℕ → List ℕ → Answer (List FilePart)
+readFrom n s = whenDone (firstNo (ask FileTooLong (leb (length s) fileLimit) ∷ [])) (readLines n nothingAbove (linesOf s))
+
+abbrev pub readFile : List ℕ → Answer (List FilePart)
+readFile s = readFrom 1 s

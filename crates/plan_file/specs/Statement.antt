@@ -10,14 +10,15 @@ use mathlib.Core.Path.{_≡_}
 use mathlib.Core.Bool.{true, false}
 use mathlib.Core.List.{List, [], _∷_, _++_}
 use lib.ListN.{length}
-use Rattle.text.specs.Bytes.{Line, linesOf}
 use Rattle.refusal.specs.declared.Refusal.{Refusal}
 use Rattle.refusal.specs.declared.Refusal.the-variants.{FileTooLong, Misplaced}
 use Rattle.refusal.specs.Limits.{fileLimit}
 use Rattle.refusal.specs.FirstNo.{allYes, FirstNo}
+use Rattle.text.specs.Bytes.{Line, linesOf}
 use Rattle.records.specs.Records.{recordIn}
-use Rattle.plan_file.specs.Above.{FilePart, Above, nothingAbove, after}
+use Rattle.plan_file.specs.Above.{Above, nothingAbove, after}
 use Rattle.plan_file.specs.Reading.{isEnd, questionsAt}
+use Rattle.plan_file.specs.Numbers.{PlanPart, planParts}
 
 unfoldable pub said : Above → List Line → Above
 said a [] = a
@@ -40,8 +41,8 @@ pub data RefusedAt (s : List ℕ) (r : Refusal) : Type 0 where
   on-line : length s ≤ fileLimit → StopsAt 1 nothingAbove (linesOf s) r → RefusedAt s r
   run-out : length s ≤ fileLimit → AllYes 1 nothingAbove (linesOf s) → isEnd (said nothingAbove (linesOf s) .directly) ≡ false → r ≡ Misplaced (1 + length (linesOf s)) → RefusedAt s r
 
-pub record AnsweredBy (s : List ℕ) (ps : List FilePart) : Type 0 where
+pub record AnsweredBy (s : List ℕ) (ps : List PlanPart) : Type 0 where
   pub fits : length s ≤ fileLimit
   pub yes : AllYes 1 nothingAbove (linesOf s)
   pub ended : isEnd (said nothingAbove (linesOf s) .directly) ≡ true
-  pub are : said nothingAbove (linesOf s) .parts ≡ ps
+  pub are : planParts (said nothingAbove (linesOf s) .parts) ≡ ps

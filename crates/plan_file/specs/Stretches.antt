@@ -8,9 +8,8 @@ use mathlib.Core.List.{List, [], _∷_, _++_}
 use lib.ListN.{length}
 use Rattle.text.specs.Bytes.{Line, linesOf}
 use Rattle.stretch.specs.declared.Span.{Span}
-use Rattle.records.specs.Records.{Record, recordIn}
+use Rattle.records.specs.Records.{Record, recordIn, nameSpan}
 use Rattle.records.specs.Records.Record.{part, task, lock, end, noRecord}
-use Rattle.records.specs.Cursor.{nameSpan}
 
 unfoldable pub spanOn : ℕ → Record → List Span
 spanOn at (part name P) = nameSpan at name ∷ []
@@ -26,3 +25,6 @@ spansFrom at (l ∷ ls) = spanOn at (recordIn l) ++ spansFrom (at + suc (length 
 
 unfoldable pub nameSpans : List ℕ → List Span
 nameSpans s = spansFrom 0 (linesOf s)
+
+abbrev pub noSpan : Span
+noSpan = record { start = 0; len = 0 }

@@ -5,7 +5,7 @@ use task_set::Task;
 ghost use mathlib.Core.Path.{_≡_};
 ghost use Prim.Native.Nat.{_<_};
 ghost use Rattle.stretch.specs.Stretch.{bytesOf};
-ghost use Rattle.plan_file.specs.Entries.{FineNames, noNames, noTaskRead, noneSeen, withName, withLockName, placeAmong, namesOf, seenPart, seenTask, seenLock, seenEnd};
+ghost use Rattle.plan_file.specs.Code.Entries.{FineNames, noNames, noTaskRead, noneSeen, withName, withLockName, placeAmong, namesOf, seenPart, seenTask, seenLock, seenEnd};
 
 // Names in the order of their lines, as stretches of the file.
 pub struct Names {

@@ -16,24 +16,22 @@ use Rattle.refusal.proofs.Answers.{answered-not-refused, done-not-refused}
 use Rattle.refusal.proofs.Questions.{first-or-later, only-first, first-of-two, first-of-three}
 use Rattle.load.specs.Weigh.{weighQuestions, structQuestions}
 use Rattle.selection.specs.Questions.{choiceQuestions}
-use Rattle.plan_file.specs.Above.{FilePart}
-use Rattle.plan_file.specs.Reading.{readFile}
-use Rattle.plan_file.proofs.Reading.{read-refused-iff}
-use Rattle.plan_file.proofs.Refusals.{read-refused-to-nine}
+use Rattle.plan_file.specs.Numbers.{PlanPart, partsOf}
+use Rattle.plan_file.proofs.Reading.{parts-refused-iff}
 use Rattle.answers.specs.declared.Planned.{Planned}
-use Rattle.answers.specs.Answers.{planQuestions, planOf, planned, bufferAfter, HandedOver, PlanAnswered}
+use Rattle.answers.specs.Answers.{planOf, planned, bufferAfter, HandedOver, PlanAnswered}
 use Rattle.planning.proofs.Answering.{plan-unread}
 use Rattle.planner.specs.Demand1.{OfTheFile, OfThePlan, Demand1}
 use Rattle.planner.specs.Refusals.{RefusedBehind}
 use Rattle.planner.specs.Demand3.{Demanded}
 use Rattle.planner.specs.Demand3.Demanded.{fits}
-use Rattle.planner.proofs.Refusals.{every-refusal}
+use Rattle.planner.proofs.Refusals.{every-refusal, unread-of-file}
 use Rattle.planner.proofs.Demand3.{plan-demanded}
 
 -- the refusal of a file, or one about its parts
-module _ {s : List ℕ} {questions : List FilePart → List Question} {r : Refusal} {P : Type 0} where
-  numbered : ((parts : List FilePart) → FirstNo (questions parts) r → P) → RefusedBehind s questions r → OfTheFile r ⊎ P
-  numbered f (inl d) = inl (read-refused-to-nine s r (read-refused-iff s r .1 d))
+module _ {s : List ℕ} {questions : List PlanPart → List Question} {r : Refusal} {P : Type 0} where
+  numbered : ((parts : List PlanPart) → FirstNo (questions parts) r → P) → RefusedBehind s questions r → OfTheFile r ⊎ P
+  numbered f (inl d) = inl (unread-of-file s r (parts-refused-iff s r .1 d))
   numbered f (inr d) = inr (f (d .0) (d .2))
 
 some-budget : {r : Refusal} {j : ℕ} {P : Type 0} → (r ≡ NoBudget j) ⊎ P → ((i : ℕ) × (r ≡ NoBudget i)) ⊎ P
@@ -46,18 +44,18 @@ some-row {i = i} (inr (inl e)) = inl (i, e)
 some-row {j = j} (inr (inr e)) = inr (j, e)
 
 -- a listing that is answered fits
-demanded-fits : {ps : List FilePart} {room : ℕ} {text : List ℕ} → Demanded ps room (answered text) → length text ≤ room
+demanded-fits : {ps : List PlanPart} {room : ℕ} {text : List ℕ} → Demanded ps room (answered text) → length text ≤ room
 demanded-fits (fits p l) = l
 
 pub answered-fits : (s : List ℕ) (room : ℕ) (text : List ℕ) → planOf s room ≡ answered text → length text ≤ room
-answered-fits s room text e = go (readFile s) refl
+answered-fits s room text e = go (partsOf s) refl
   where
-    go : (a : Answer (List FilePart)) → readFile s ≡ a → length text ≤ room
+    go : (a : Answer (List PlanPart)) → partsOf s ≡ a → length text ≤ room
     go (answered ps) f = demanded-fits (subst (Demanded ps room) e (plan-demanded s room ps f))
     go (refused r) f = absurd (answered-not-refused (sym e ∙ plan-unread s r f room))
 
 plan-refusal : (s : List ℕ) (room : ℕ) (r : Refusal) → planOf s room ≡ refused r → OfThePlan r
-unfolding planQuestions choiceQuestions
+unfolding choiceQuestions
 plan-refusal s room r e = numbered (λ parts f. some-budget (first-of-three _ _ _ r f)) (every-refusal .plan s room r .0 e)
 
 -- what a plan hands over
@@ -81,7 +79,7 @@ pub demand-1 : Demand1 PlanAnswered
 unfolding weighQuestions structQuestions
 demand-1 = record {
   plan = λ s before r after h. complete-or-refused s before r after (planOf s (length before)) refl h;
-  unread = λ s before r after x h d. subst (λ (a : Answer (List ℕ)). HandedOver a before r after) (plan-unread s x (read-refused-iff s x .1 d) (length before)) h;
+  unread = λ s before r after x h d. subst (λ (a : Answer (List ℕ)). HandedOver a before r after) (plan-unread s x (parts-refused-iff s x .1 d) (length before)) h;
   untouched = λ s before r after x h e. refused-untouched s before r after (planOf s (length before)) x h e;
   others = λ s before r after h. others-untouched s before r after (planOf s (length before)) h;
   candidates = λ s k r e. numbered (λ parts f. first-of-two _ _ r f) (every-refusal .candidates s k r .0 e);

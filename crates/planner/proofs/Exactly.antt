@@ -6,12 +6,13 @@ use native.Mathlib.Omega.{arith}
 use mathlib.Core.Path.{_≡_, sym, ap, subst, _∙_}
 use mathlib.Core.Logic.{inl, inr, _↔_}
 use mathlib.Core.List.{List}
-use lib.ListN.{length, take, drop}
+use lib.ListN.{length, take, drop, length-map}
 use lib.Seq.{take-append-seam}
 use Rattle.least.specs.Lists.{nthOr}
 use Rattle.least.specs.Each.{Each}
 use Rattle.least.specs.Each.Each.{none, more}
 use Rattle.least.specs.Fraction.{_⊑_}
+use Rattle.least.proofs.Lists.{nth-of-map}
 use Rattle.refusal.specs.declared.Refusal.{Refusal}
 use Rattle.refusal.specs.declared.Refusal.the-variants.{NoRoom}
 use Rattle.refusal.specs.declared.Outcome.the-variants.{Done, Refused}
@@ -19,13 +20,15 @@ use Rattle.refusal.specs.Number.{refusalNumber}
 use Rattle.refusal.specs.Questions.{Answer, outcomeOf}
 use Rattle.refusal.specs.Questions.Answer.{answered, refused}
 use Rattle.refusal.proofs.Answers.{done-not-refused, outcome-same-refusal}
+use Rattle.task_set.specs.Partition.{Partition}
 use Rattle.load.specs.declared.Row.{Row}
 use Rattle.load.specs.Load.{row, loadOf}
-use Rattle.plan_file.specs.Above.{FilePart, noPart}
+use Rattle.plan_file.specs.Above.{noPart}
+use Rattle.plan_file.specs.Numbers.{PlanPart, planPart}
 use Rattle.listing.specs.Listing.{Share}
 use Rattle.answers.specs.declared.Planned.{Planned}
 use Rattle.answers.specs.Answers.{planned, bufferAfter, HandedOver, PlanAnswered}
-use Rattle.answers.specs.Choice.{Choice, PassingChoice}
+use Rattle.answers.specs.Choice.{Choice, PassingChoice, Chosen}
 use Rattle.planner.specs.Demand3.{printedRows, PrintedShare, Printed, NoneToPlan, Demanded, Demand3, RefusedToPlan, Demand3InWords}
 use Rattle.planner.specs.Demand3.NoneToPlan.{ten, eleven}
 use Rattle.planner.specs.Demand3.Demanded.{none-passes, fits, too-long}
@@ -39,21 +42,22 @@ each-at d e (suc zero) (more h hs) a b = h
 each-at d e (suc (suc k)) (more h hs) a b = each-at d e (suc k) hs (omega arith) (omega arith)
 
 -- no choice passes where there is none to plan
-pub none-to-plan : {ps : List FilePart} {r : Refusal} → NoneToPlan ps r → (rs : List Row) → PassingChoice ps rs → ⊥
-none-to-plan (ten {j} n) rs c =
-    let k = each-at noPart (row 0 0 0) j (c .choice) (n .from) (n .to) in
+pub none-to-plan : {ps : List PlanPart} {r : Refusal} → NoneToPlan ps r → (rs : List Row) → PassingChoice ps rs → ⊥
+none-to-plan {ps} (ten {j} n) rs c =
+    let at = each-at (planPart noPart .numbers) (row 0 0 0) j (c .choice) (n .from) (omega (arith, n .to, length-map ps (λ p. p .numbers))) in
+    let k = subst (λ (v : Partition). Chosen v (nthOr (row 0 0 0) j rs)) (nth-of-map (λ (p : PlanPart). p .numbers) (planPart noPart) j ps) at in
     n .none (k .setting) (k .budget) (k .local)
 none-to-plan (eleven each never) rs c = never rs c
 
 -- what is printed is a choice that passes
-printed-choice : {ps : List FilePart} {ss : List Share} → Each PrintedShare ps ss → Choice ps (printedRows ss)
+printed-choice : {ps : List PlanPart} {ss : List Share} → Each PrintedShare ps ss → Choice ps (printedRows ss)
 printed-choice none = none
 printed-choice (more h hs) = more (record { setting = _; budget = _; local = h .local; is = h .is }) (printed-choice hs)
 
-pub printed-passes : {ps : List FilePart} {text : List ℕ} (p : Printed ps text) → PassingChoice ps (printedRows (p .shares))
+pub printed-passes : {ps : List PlanPart} {text : List ℕ} (p : Printed ps text) → PassingChoice ps (printedRows (p .shares))
 printed-passes p = record { choice = printed-choice (p .choice); system = p .system }
 
-none-refused : {ps : List FilePart} {x : Refusal} (r : Planned) → NoneToPlan ps x → r .outcome ≡ Refused x → RefusedToPlan r
+none-refused : {ps : List PlanPart} {x : Refusal} (r : Planned) → NoneToPlan ps x → r .outcome ≡ Refused x → RefusedToPlan r
 none-refused r (ten {j} n) e = inl (j, e)
 none-refused r (eleven each never) e = inr e
 
@@ -78,7 +82,7 @@ unfolding planned bufferAfter
 handed-text {text} {before} h = rw (h .result, h .bytes) (sym (take-append-seam text (drop (length text) before)))
 
 -- of what is handed over
-module _ {ps : List FilePart} {before : List ℕ} {r : Planned} {after : List ℕ} where
+module _ {ps : List PlanPart} {before : List ℕ} {r : Planned} {after : List ℕ} where
   refused-iff-none-passes : {a : Answer (List ℕ)} → Demanded ps (length before) a → HandedOver a before r after → RefusedToPlan r ↔ ((rs : List Row) → PassingChoice ps rs → ⊥)
   unfolding outcomeOf
   refused-iff-none-passes (none-passes n) h = ((λ x. none-to-plan n), λ x. none-refused r n (handed-outcome h))

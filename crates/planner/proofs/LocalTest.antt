@@ -6,11 +6,13 @@ use mathlib.Core.Path.{_≡_, ap, _∙_}
 use mathlib.Core.Bool.{true}
 use mathlib.Core.Logic.{inl, inr, ⊎-elim, _↔_}
 use mathlib.Core.List.{List, _∷_, _++_, reverse, reverse-reverse}
-use Rattle.least.specs.Search.{IsLeast}
+use Rattle.least.specs.Code.Search.{IsLeast}
 use Rattle.task_set.specs.declared.Task.{Task}
 use Rattle.task_set.specs.Blocking.{Setting, blockingOf, needOf}
+use Rattle.task_set.specs.Partition.{Partition}
 use Rattle.task_set.proofs.Blocking.{blocking-paper}
-use Rattle.holding.specs.Holding.{HoldingTime, holdingTimeOf}
+use Rattle.holding.specs.Holding.{holdingTimeOf}
+use Rattle.holding.specs.Code.Holding.{HoldingTime}
 use Rattle.holding.proofs.Holding.{held-paper, inRange-paper, holding-paper, permitted-paper, holdingTime-paper}
 use Rattle.budget.specs.Budget.{passes}
 use Rattle.budget.proofs.Passing.{passes-paper, budget-iff}
@@ -27,27 +29,27 @@ lock-holding-iff ts l r w = (
   (λ h. record { positive = h .some; passes = held-paper ts l r w .1 (h .held); first = λ v a b. h .least v a (held-paper ts l r v .0 b) }),
 )
 
-permitted-iff : (ts : List Task) (m : ℕ) (σ : Setting) → Permitted ts m σ ↔ ((l : ℕ) → 1 ≤ l → l ≤ m → PermittedAt ts l (σ l))
-permitted-iff ts m σ = (to, from)
+permitted-iff : (v : Partition) (σ : Setting) → Permitted v σ ↔ ((l : ℕ) → 1 ≤ l → l ≤ v .locks → PermittedAt v l (σ l))
+permitted-iff v σ = (to, from)
   where
-    to : Permitted ts m σ → (l : ℕ) → 1 ≤ l → l ≤ m → PermittedAt ts l (σ l)
+    to : Permitted v σ → (l : ℕ) → 1 ≤ l → l ≤ v .locks → PermittedAt v l (σ l)
     to p l a b =
-        let r = inRange-paper ts m σ .0 (p .ranged) l a b in
-        let t = permitted-paper ts m σ .0 (p .held) l a b in
-        record { lowest = r .0; most = r .1; time = t .0; holds = lock-holding-iff ts l (σ l) (t .0) .0 (t .1); in-time = t .2 }
+        let r = inRange-paper v σ .0 (p .ranged) l a b in
+        let t = permitted-paper v σ .0 (p .held) l a b in
+        record { lowest = r .0; most = r .1; time = t .0; holds = lock-holding-iff (v .tasks) l (σ l) (t .0) .0 (t .1); in-time = t .2 }
 
-    from : ((l : ℕ) → 1 ≤ l → l ≤ m → PermittedAt ts l (σ l)) → Permitted ts m σ
+    from : ((l : ℕ) → 1 ≤ l → l ≤ v .locks → PermittedAt v l (σ l)) → Permitted v σ
     from h = record {
-      ranged = inRange-paper ts m σ .1 (λ l a b. (h l a b .lowest, h l a b .most));
-      held = permitted-paper ts m σ .1 (λ l a b. let k = h l a b in (k .time, lock-holding-iff ts l (σ l) (k .time) .1 (k .holds), k .in-time));
+      ranged = inRange-paper v σ .1 (λ l a b. (h l a b .lowest, h l a b .most));
+      held = permitted-paper v σ .1 (λ l a b. let k = h l a b in (k .time, lock-holding-iff (v .tasks) l (σ l) (k .time) .1 (k .holds), k .in-time));
     }
 
-holding-is : (ts : List Task) (m : ℕ) (σ : Setting) → Permitted ts m σ → PartHolding ts m σ (holdingTimeOf ts m σ)
-holding-is ts m σ p =
-    let g = holdingTime-paper ts m σ (p .held) in
+holding-is : (v : Partition) (σ : Setting) → Permitted v σ → PartHolding v σ (holdingTimeOf v σ)
+holding-is v σ p =
+    let g = holdingTime-paper v σ (p .held) in
     record {
-      each = λ l w a b h. g .each l w a b (lock-holding-iff ts l (σ l) w .1 h);
-      one = ⊎-elim inl (λ k. inr (k .0, k .1, k .2, lock-holding-iff ts (k .0) (σ (k .0)) (holdingTimeOf ts m σ) .0 (k .3))) (g .one);
+      each = λ l w a b h. g .each l w a b (lock-holding-iff (v .tasks) l (σ l) w .1 h);
+      one = ⊎-elim inl (λ k. inr (k .0, k .1, k .2, lock-holding-iff (v .tasks) (k .0) (σ (k .0)) (holdingTimeOf v σ) .0 (k .3))) (g .one);
     }
 
 blocking-is : (m : ℕ) (σ : Setting) (lower : List Task) → BlockingIs m σ lower (blockingOf m σ lower)
@@ -58,47 +60,47 @@ blocking-is m σ lower =
       one = ⊎-elim inl (λ k. let r = k .2 .1 in inr (k .0, k .1, record { below = k .2 .0; from = r .from; to = r .upto; ceiling = r .ceiling }, k .3)) (g .1);
     }
 
-module _ (P : ℕ) (ts : List Task) (m : ℕ) (σ : Setting) where
-  passes-iff : (Q : ℕ) → (passes P ts m σ Q ≡ true) ↔ Passes P ts m σ Q
+module _ (v : Partition) (σ : Setting) where
+  passes-iff : (Q : ℕ) → (passes v σ Q ≡ true) ↔ Passes v σ Q
   unfolding needOf
   passes-iff Q = (to, from)
     where
-      to : passes P ts m σ Q ≡ true → Passes P ts m σ Q
+      to : passes v σ Q ≡ true → Passes v σ Q
       to q lower task higher e =
-          let h = passes-paper P ts m σ Q .0 q (reverse lower) task higher (ap (λ (l : List Task). l ++ (task ∷ higher)) (reverse-reverse lower) ∙ e) in
-          (h .0, h .1, h .2, omega (arith, h .3, blocking-reverse m σ lower))
+          let h = passes-paper v σ Q .0 q (reverse lower) task higher (ap (λ (l : List Task). l ++ (task ∷ higher)) (reverse-reverse lower) ∙ e) in
+          (h .0, h .1, h .2, omega (arith, h .3, blocking-reverse (v .locks) σ lower))
 
-      from : Passes P ts m σ Q → passes P ts m σ Q ≡ true
-      from f = passes-paper P ts m σ Q .1 (λ lower task higher e. let h = f (reverse lower) task higher e in (h .0, h .1, h .2, omega (arith, h .3, blocking-reverse m σ lower)))
+      from : Passes v σ Q → passes v σ Q ≡ true
+      from f = passes-paper v σ Q .1 (λ lower task higher e. let h = f (reverse lower) task higher e in (h .0, h .1, h .2, omega (arith, h .3, blocking-reverse (v .locks) σ lower)))
 
-  least-iff : (Q : ℕ) → (IsLeast (passes P ts m σ) Q × (Q ≤ P)) ↔ LeastPassing P ts m σ Q
+  least-iff : (Q : ℕ) → (IsLeast (passes v σ) Q × (Q ≤ v .period)) ↔ LeastPassing v σ Q
   least-iff Q = (
     (λ h. record { some = h .0 .positive; most = h .1; passing = passes-iff Q .0 (h .0 .passes); least = λ R a f. h .0 .first R a (passes-iff R .1 f) }),
     (λ h. (record { positive = h .some; passes = passes-iff Q .1 (h .passing); first = λ R a f. h .least R a (passes-iff R .0 f) }, h .most)),
   )
 
-candidate-iff : (P : ℕ) (ts : List Task) (m : ℕ) (c : Pair) → Candidate P ts m c ↔ ((σ : Setting) × Permitted ts m σ × (holdingTimeOf ts m σ ≡ c .holding) × LeastPassing P ts m σ (c .budget))
-candidate-iff P ts m c = (
-  (λ d. (d .setting, d .allowed, d .holding, least-iff P ts m (d .setting) (c .budget) .0 (budget-iff P ts m (d .setting) (c .budget) .0 (d .budget)))),
-  (λ h. record { setting = h .0; allowed = h .1; holding = h .2; budget = budget-iff P ts m (h .0) (c .budget) .1 (least-iff P ts m (h .0) (c .budget) .1 (h .3)) }),
+candidate-iff : (v : Partition) (c : Pair) → Candidate v c ↔ ((σ : Setting) × Permitted v σ × (holdingTimeOf v σ ≡ c .holding) × LeastPassing v σ (c .budget))
+candidate-iff v c = (
+  (λ d. (d .setting, d .allowed, d .holding, least-iff v (d .setting) (c .budget) .0 (budget-iff v (d .setting) (c .budget) .0 (d .budget)))),
+  (λ h. record { setting = h .0; allowed = h .1; holding = h .2; budget = budget-iff v (h .0) (c .budget) .1 (least-iff v (h .0) (c .budget) .1 (h .3)) }),
 )
 
-module _ (ts : List Task) (x l : ℕ) where
-  within-iff : (r : ℕ) → Within ts x l r ↔ ((p : PermittedAt ts l r) × (p .time ≤ x))
+module _ (v : Partition) (x l : ℕ) where
+  within-iff : (r : ℕ) → Within v x l r ↔ ((p : PermittedAt v l r) × (p .time ≤ x))
   within-iff r = (to, from)
     where
-      to : Within ts x l r → (p : PermittedAt ts l r) × (p .time ≤ x)
+      to : Within v x l r → (p : PermittedAt v l r) × (p .time ≤ x)
       to k =
-          let h = holding-paper ts l r (k .time) .0 (k .is) in
-          (record { lowest = k .low; most = k .high; time = k .time; holds = lock-holding-iff ts l r (k .time) .0 (h .0); in-time = h .1 }, k .most)
+          let h = holding-paper (v .tasks) l r (k .time) .0 (k .is) in
+          (record { lowest = k .low; most = k .high; time = k .time; holds = lock-holding-iff (v .tasks) l r (k .time) .0 (h .0); in-time = h .1 }, k .most)
 
-      from : (p : PermittedAt ts l r) × (p .time ≤ x) → Within ts x l r
-      from (p, u) = record { low = p .lowest; high = p .most; time = p .time; is = holding-paper ts l r (p .time) .1 (lock-holding-iff ts l r (p .time) .1 (p .holds), p .in-time); most = u }
+      from : (p : PermittedAt v l r) × (p .time ≤ x) → Within v x l r
+      from (p, u) = record { low = p .lowest; high = p .most; time = p .time; is = holding-paper (v .tasks) l r (p .time) .1 (lock-holding-iff (v .tasks) l r (p .time) .1 (p .holds), p .in-time); most = u }
 
-  shown-is : (r : ℕ) (p : PermittedAt ts l r) → p .time ≤ x → ShownAt ts x l (shownCeiling ts x l)
+  shown-is : (r : ℕ) (p : PermittedAt v l r) → p .time ≤ x → ShownAt v x l (shownCeiling v x l)
   shown-is r p u =
-      let s = within-iff (shownCeiling ts x l) .0 (shown-least ts x l r (within-iff r .1 (p, u)) .0) in
-      record { permitted = s .0; most = s .1; lowest = λ q k v. shown-least ts x l q (within-iff q .1 (k, v)) .1 }
+      let s = within-iff (shownCeiling v x l) .0 (shown-least v x l r (within-iff r .1 (p, u)) .0) in
+      record { permitted = s .0; most = s .1; lowest = λ q k u. shown-least v x l q (within-iff q .1 (k, u)) .1 }
 
 pub local-test : LocalTest
 local-test = record { permitted = permitted-iff; holding = holding-is; blocking = blocking-is; budget = passes-iff; candidate = candidate-iff; shown = shown-is }
@@ -106,11 +108,11 @@ local-test = record { permitted = permitted-iff; holding = holding-is; blocking 
 pub lock-holding-settled : {ts : List Task} {l r v w : ℕ} → LockHolding ts l r v → LockHolding ts l r w → v ≡ w
 lock-holding-settled {v = v} {w = w} h k = omega (arith, h .least w (k .some) (k .held), k .least v (h .some) (h .held))
 
-module _ {ts : List Task} {m : ℕ} {σ : Setting} where
-  holding-le : {X Y : ℕ} → PartHolding ts m σ X → PartHolding ts m σ Y → X ≤ Y
+module _ {v : Partition} {σ : Setting} where
+  holding-le : {X Y : ℕ} → PartHolding v σ X → PartHolding v σ Y → X ≤ Y
   holding-le {X} h k = ⊎-elim (λ z. omega (arith, z .1)) (λ r. k .each (r .0) X (r .1) (r .2) (r .3)) (h .one)
 
-  pub holding-settled : {X Y : ℕ} → PartHolding ts m σ X → PartHolding ts m σ Y → X ≡ Y
+  pub holding-settled : {X Y : ℕ} → PartHolding v σ X → PartHolding v σ Y → X ≡ Y
   holding-settled h k = omega (arith, holding-le h k, holding-le k h)
 
 module _ {m : ℕ} {σ : Setting} {lower : List Task} where
@@ -120,8 +122,8 @@ module _ {m : ℕ} {σ : Setting} {lower : List Task} where
   pub blocking-settled : {b c : ℕ} → BlockingIs m σ lower b → BlockingIs m σ lower c → b ≡ c
   blocking-settled h k = omega (arith, blocking-le h k, blocking-le k h)
 
-pub budget-settled : {P : ℕ} {ts : List Task} {m : ℕ} {σ : Setting} {Q R : ℕ} → LeastPassing P ts m σ Q → LeastPassing P ts m σ R → Q ≡ R
+pub budget-settled : {v : Partition} {σ : Setting} {Q R : ℕ} → LeastPassing v σ Q → LeastPassing v σ R → Q ≡ R
 budget-settled {Q = Q} {R = R} h k = omega (arith, h .least R (k .some) (k .passing), k .least Q (h .some) (h .passing))
 
-pub shown-settled : {ts : List Task} {x l q r : ℕ} → ShownAt ts x l q → ShownAt ts x l r → q ≡ r
+pub shown-settled : {v : Partition} {x l q r : ℕ} → ShownAt v x l q → ShownAt v x l r → q ≡ r
 shown-settled {q = q} {r = r} h k = omega (arith, h .lowest r (k .permitted) (k .most), k .lowest q (h .permitted) (h .most))

@@ -4,25 +4,24 @@ use Prim.Native.Nat.{ℕ, suc, _+_}
 use native.Mathlib.Omega.{arith}
 use mathlib.Core.Path.{_≡_, refl, sym, ap, ap₂, _∙_}
 use mathlib.Core.Bool.{Bool, true, false, cond}
-use mathlib.Core.List.{List, [], _∷_, _++_, map, append-nil, append-assoc, map-append}
+use mathlib.Core.List.{List, [], _∷_, _++_, map, append-nil, append-assoc, map-append, map-map}
 use lib.ListN.{length, length-append}
 use lib.Seq.{take-append-seam, drop-append-add}
 use Rattle.least.specs.Lists.{joined, nthOr}
 use Rattle.least.proofs.Last.{map-on-last}
 use Rattle.least.proofs.Lists.{and-iff, nth-of-map}
+use Rattle.refusal.specs.FirstNo.{allYes}
+use Rattle.stretch.specs.Stretch.{bytesOf}
 use Rattle.text.specs.Bytes.{bytes, same, Line, linesOf, fieldsOf, lineOf}
 use Rattle.text.proofs.Bytes.{lineBytes, lines-join, fields-join, same-true}
-use Rattle.refusal.specs.FirstNo.{allYes}
 use Rattle.scan.specs.Line.{lineIsGood}
-use Rattle.stretch.specs.Stretch.{bytesOf}
-use Rattle.records.specs.Records.{Record, recordOf, recordIn}
+use Rattle.records.specs.Records.{Record, recordOf, recordIn, nameSpan}
 use Rattle.records.specs.Records.Record.{part, task, lock, end, noRecord}
-use Rattle.records.specs.Cursor.{nameSpan}
 use Rattle.plan_file.specs.Above.{FilePart, Above, noPart, nothingAbove, partsAfter, after}
-use Rattle.plan_file.specs.Entries.{noSpan}
+use Rattle.plan_file.specs.Stretches.{noSpan, spanOn, spansFrom, nameSpans}
 use Rattle.plan_file.specs.Reading.{questionsAt, partNames}
 use Rattle.plan_file.specs.Statement.{said, AllYes, AnsweredBy}
-use Rattle.plan_file.specs.Stretches.{spanOn, spansFrom, nameSpans}
+use Rattle.plan_file.specs.Numbers.{PlanPart, planPart, partAt}
 use Rattle.plan_file.proofs.Reading.{yes-first, yes-rest}
 
 -- the fields of a `part`
@@ -87,10 +86,11 @@ names-from s front n a (l ∷ ls) all is =
     ∙ append-assoc (partNames (a .parts)) _ _
     ∙ ap (λ (x : List (List ℕ)). partNames (a .parts) ++ x) (sym (map-append (bytesOf s) (spanOn (length front) (recordIn l)) _))
 
-pub names-stretches : (s : List ℕ) (ps : List FilePart) → AnsweredBy s ps → map (bytesOf s) (nameSpans s) ≡ partNames ps
+pub names-stretches : (s : List ℕ) (ps : List PlanPart) → AnsweredBy s ps → map (bytesOf s) (nameSpans s) ≡ map (λ p. p .name) ps
 unfolding nameSpans
-names-stretches s ps d = sym (ap partNames (sym (d .are)) ∙ names-from s [] 1 nothingAbove (linesOf s) (d .yes) (sym (lines-join s)))
+names-stretches s ps d =
+    sym (names-from s [] 1 nothingAbove (linesOf s) (d .yes) (sym (lines-join s))) ∙ sym (map-map (λ (p : PlanPart). p .name) planPart (said nothingAbove (linesOf s) .parts)) ∙ ap (map (λ (p : PlanPart). p .name)) (d .are)
 
-pub name-stretch : (s : List ℕ) (ps : List FilePart) (k : ℕ) → AnsweredBy s ps → bytesOf s (nthOr noSpan k (nameSpans s)) ≡ nthOr noPart k ps .name
+pub name-stretch : (s : List ℕ) (ps : List PlanPart) (k : ℕ) → AnsweredBy s ps → bytesOf s (nthOr noSpan k (nameSpans s)) ≡ partAt ps k .name
 unfolding bytesOf
-name-stretch s ps k d = sym (nth-of-map (bytesOf s) noSpan k (nameSpans s)) ∙ ap (nthOr [] k) (names-stretches s ps d) ∙ nth-of-map (λ p. p .name) noPart k ps
+name-stretch s ps k d = sym (nth-of-map (bytesOf s) noSpan k (nameSpans s)) ∙ ap (nthOr [] k) (names-stretches s ps d) ∙ nth-of-map (λ p. p .name) (planPart noPart) k ps

@@ -12,13 +12,13 @@ nothing-free = record {
   listing = text-settled;
   answer = λ ps room a b h k. answer-settled h k;
   plan = plan-settled;
-  kept = λ p a b h k. kept-settled p a b h k;
+  kept = λ v a b h k. kept-settled v a b h k;
   weighed = weighed-settled;
   lock-holding = λ ts l r v w h k. lock-holding-settled h k;
-  holding = λ ts m σ X Y h k. holding-settled h k;
+  holding = λ v σ X Y h k. holding-settled h k;
   blocking = λ m σ lower b c h k. blocking-settled h k;
-  budget = λ P ts m σ Q R h k. budget-settled h k;
-  shown = λ ts x l q r h k. shown-settled h k;
+  budget = λ v σ Q R h k. budget-settled h k;
+  shown = λ v x l q r h k. shown-settled h k;
   bound = λ rows i b c h k. bound-settled h k;
   load = λ rows b c i j h k. (load-settled h k, row-settled h k);
 }

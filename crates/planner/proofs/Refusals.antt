@@ -5,22 +5,23 @@ use native.Mathlib.Omega.{arith}
 use mathlib.Core.Path.{_≡_, refl, sym, ap, _∙_, subst}
 use mathlib.Core.Bool.{Bool, true, false, not, cond, _&&_, false≢true}
 use mathlib.Core.Logic.{inl, inr, _↔_}
-use mathlib.Core.List.{List, [], _∷_, map}
+use mathlib.Core.List.{List, [], _∷_, _++_}
 use borrow.Author.Tests.{leb-true, leb-false, le-leb}
 use lib.Dec.{leb}
 use lib.ListN.{length}
-use Rattle.least.specs.Lists.{isEmpty, some, nthOr}
+use Rattle.least.specs.Lists.{isEmpty, some}
 use Rattle.least.proofs.Lists.{and-iff}
 use Rattle.refusal.specs.declared.Refusal.{Refusal}
 use Rattle.refusal.specs.declared.Refusal.the-variants.{NoBudget, BadHandSet, NoRoom}
+use Rattle.refusal.specs.declared.Outcome.{Outcome}
 use Rattle.refusal.specs.declared.Outcome.the-variants.{Done, Refused}
 use Rattle.refusal.specs.Limits.{numberLimit, rowLimit}
-use Rattle.refusal.specs.Number.{refusalNumber}
+use Rattle.refusal.specs.Number.{isOfTheFile}
 use Rattle.refusal.specs.Questions.{Question, ask, Answer, firstNo, whenAnswered, whenDone}
 use Rattle.refusal.specs.Questions.Answer.{answered, refused}
 use Rattle.refusal.specs.FirstNo.{FirstNo}
 use Rattle.refusal.proofs.Answers.{answered-not-refused, answer-same-value, answer-same-refusal, done-not-refused}
-use Rattle.refusal.proofs.Questions.{refused-iff, asked-iff}
+use Rattle.refusal.proofs.Questions.{refused-iff, asked-iff, refused-before, yes-next, no-answers}
 use Rattle.supply.specs.Supply.{supplyOf}
 use Rattle.load.specs.declared.Row.{Row}
 use Rattle.load.specs.declared.Rows.{Rows}
@@ -28,43 +29,49 @@ use Rattle.load.specs.declared.Weighed.{Weighed}
 use Rattle.load.specs.Load.{passesSystem}
 use Rattle.load.specs.Weigh.{weighQuestions, weighed, weighOf, rowsOf, structQuestions, weighRows}
 use Rattle.load.proofs.Weighing.{weigh-few, weigh-many}
-use Rattle.plan_file.specs.Above.{FilePart, noPart}
-use Rattle.plan_file.specs.Reading.{readFile}
-use Rattle.plan_file.proofs.Reading.{read-refused-iff, read-answered-iff}
-use Rattle.plan_file.proofs.Refusals.{read-refused-to-nine}
-use Rattle.answers.specs.Parts.{keptPairs, keptRows}
-use Rattle.answers.specs.Answers.{planRows, planText, planQuestions, planParts, planOf, isPartNumber, candidatesOf, nameOf, supplyAnswer, supplied}
+use Rattle.selection.specs.Questions.{choiceQuestions}
+use Rattle.plan_file.specs.Numbers.{PlanPart, partAt, partsOf}
+use Rattle.plan_file.proofs.Reading.{read-refused-iff, parts-refused-iff, parts-answered-iff}
+use Rattle.plan_file.proofs.Refusals.{read-refused-of-file}
+use Rattle.answers.specs.Answers.{planOf, isPartNumber, candidatesOf, nameOf, supplyAnswer, supplied, listedIn, keptAt}
 use Rattle.answers.specs.Choice.{WithoutBudget}
-use Rattle.answers.proofs.PlanRows.{everyKept, keptChoices, text, refused-10, refused-11, planned-or-14, plan-parts}
+use Rattle.answers.specs.Plan.{partitions, offered, chosenRows, chosenPlan, planFile}
+use Rattle.answers.proofs.PlanRows.{everyKept, keptChoices, text, refused-10, refused-11, planned-or-14}
 use Rattle.planning.proofs.Answering.{plan-unread}
-use Rattle.planner.specs.Refusals.{RefusedBehind, PartOf, NotAPart, SupplyFits, EveryRefusal}
+use Rattle.planner.specs.Refusals.{RefusedBehind, PartOf, NotAPart, SupplyFits, EveryRefusal, planQuestions}
 use Rattle.planner.proofs.Weighing.{weighed-outcome, not-iff, wrong-count-iff, bad-row-iff, no-time-iff}
 use Rattle.planner.proofs.KeptList.{no-budget-iff}
 
 -- an operation that reads a file, asks about its parts, and then answers
-module _ {A : Type 0} (s : List ℕ) (questions : List FilePart → List Question) (value : List FilePart → A) (r : Refusal) where
-  abbrev answer : Answer (List FilePart) → Answer A
+module _ {A : Type 0} (s : List ℕ) (questions : List PlanPart → List Question) (value : List PlanPart → A) (r : Refusal) where
+  abbrev answer : Answer (List PlanPart) → Answer A
   answer x = whenAnswered x (λ parts. whenDone (firstNo (questions parts)) (answered (value parts)))
 
-  behind : (x : Answer (List FilePart)) → readFile s ≡ x → answer x ≡ refused r → RefusedBehind s questions r
+  behind : (x : Answer (List PlanPart)) → partsOf s ≡ x → answer x ≡ refused r → RefusedBehind s questions r
   unfolding whenAnswered
-  behind (answered parts) e h = inr (parts, read-answered-iff s parts .0 e, asked-iff (questions parts) (value parts) r .0 h)
-  behind (refused x) e h = inl (read-refused-iff s r .0 (e ∙ ap refused (answer-same-refusal h)))
+  behind (answered parts) e h = inr (parts, parts-answered-iff s parts .0 e, asked-iff (questions parts) (value parts) r .0 h)
+  behind (refused x) e h = inl (parts-refused-iff s r .0 (e ∙ ap refused (answer-same-refusal h)))
 
-  back : RefusedBehind s questions r → answer (readFile s) ≡ refused r
+  back : RefusedBehind s questions r → answer (partsOf s) ≡ refused r
   unfolding whenAnswered
-  back (inl d) = ap answer (read-refused-iff s r .1 d)
-  back (inr d) = ap answer (read-answered-iff s (d .0) .1 (d .1)) ∙ asked-iff (questions (d .0)) (value (d .0)) r .1 (d .2)
+  back (inl d) = ap answer (parts-refused-iff s r .1 d)
+  back (inr d) = ap answer (parts-answered-iff s (d .0) .1 (d .1)) ∙ asked-iff (questions (d .0)) (value (d .0)) r .1 (d .2)
 
-  refused-behind-iff : (answer (readFile s) ≡ refused r) ↔ RefusedBehind s questions r
-  refused-behind-iff = (behind (readFile s) refl, back)
+  refused-behind-iff : (answer (partsOf s) ≡ refused r) ↔ RefusedBehind s questions r
+  refused-behind-iff = (behind (partsOf s) refl, back)
 
 weighed-iff : (qs : List Question) (rows : List Row) (r : Refusal) → (weighed (firstNo qs) rows .outcome ≡ Refused r) ↔ FirstNo qs r
 weighed-iff qs rows r = let o = weighed-outcome (firstNo qs) rows in ((λ e. refused-iff qs r .0 (sym o ∙ e)), λ f. o ∙ refused-iff qs r .1 f)
 
--- a file is refused with 1 to 9 only
-unread : {A : Type 0} (s : List ℕ) (r x : Refusal) → readFile s ≡ refused r → _≡_ {A = Answer A} (refused r) (refused x) → 9 < refusalNumber x → ⊥
-unread s r x e h l = omega (arith, read-refused-to-nine s r e, ap refusalNumber (answer-same-refusal h))
+-- a file is refused by the questions about it only
+pub unread-of-file : (s : List ℕ) (r : Refusal) → partsOf s ≡ refused r → isOfTheFile r ≡ true
+unread-of-file s r e = read-refused-of-file s r (read-refused-iff s r .1 (parts-refused-iff s r .0 e))
+
+pub unread-by-no-other : (s : List ℕ) (r x : Refusal) → partsOf s ≡ refused r → isOfTheFile x ≡ false → r ≡ x → ⊥
+unread-by-no-other s r x e l q = false≢true (sym l ∙ sym (ap isOfTheFile q) ∙ unread-of-file s r e)
+
+unread : {A : Type 0} (s : List ℕ) (r x : Refusal) → partsOf s ≡ refused r → _≡_ {A = Answer A} (refused r) (refused x) → isOfTheFile x ≡ false → ⊥
+unread s r x e h l = unread-by-no-other s r x e l (answer-same-refusal h)
 
 -- a question about the part number, then one about the part, with its number
 module _ {A : Type 0} (k : ℕ) (v : A) where
@@ -89,15 +96,15 @@ unfolding whenDone firstNo
 only-12 v true j = ((λ e. absurd (answered-not-refused e)), λ h. absurd (false≢true (sym (h .1))))
 only-12 v false j = ((λ e. (cc e, refl)), λ h. ap (λ (n : ℕ). refused (BadHandSet n)) (sym (h .0)))
 
-pub number-iff : (k : ℕ) (parts : List FilePart) → (isPartNumber k parts ≡ true) ↔ ((1 ≤ k) × (k ≤ length parts))
+pub number-iff : (k : ℕ) (parts : List PlanPart) → (isPartNumber k parts ≡ true) ↔ ((1 ≤ k) × (k ≤ length parts))
 number-iff k parts = (
   (λ e. let h = and-iff (leb 1 k) (leb k (length parts)) .0 e in (leb-true 1 k (h .0), leb-true k (length parts) (h .1))),
   (λ h. and-iff (leb 1 k) (leb k (length parts)) .1 (le-leb 1 k (h .0), le-leb k (length parts) (h .1))),
 )
 
 module _ (s : List ℕ) (k : ℕ) where
-  not-a-part : (parts : List FilePart) → readFile s ≡ answered parts → isPartNumber k parts ≡ false → NotAPart s k
-  not-a-part parts e f = record { parts = parts; readable = read-answered-iff s parts .0 e; none = λ a b. false≢true (sym f ∙ number-iff k parts .1 (a, b)) }
+  not-a-part : (parts : List PlanPart) → partsOf s ≡ answered parts → isPartNumber k parts ≡ false → NotAPart s k
+  not-a-part parts e f = record { parts = parts; readable = parts-answered-iff s parts .0 e; none = λ a b. false≢true (sym f ∙ number-iff k parts .1 (a, b)) }
 
   no-number : (n : NotAPart s k) → isPartNumber k (n .parts) ≡ false
   no-number n = go (isPartNumber k (n .parts)) refl
@@ -106,59 +113,59 @@ module _ (s : List ℕ) (k : ℕ) where
       go true e = let h = number-iff k (n .parts) .0 e in absurd (n .none (h .0) (h .1))
       go false e = e
 
-  pub candidates-read : (parts : List FilePart) → readFile s ≡ answered parts → candidatesOf s k ≡ asked k (keptPairs (nthOr noPart k parts)) (isPartNumber k parts) (not (isEmpty (keptPairs (nthOr noPart k parts))))
+  pub candidates-read : (parts : List PlanPart) → partsOf s ≡ answered parts → candidatesOf s k ≡ asked k (keptAt parts k) (isPartNumber k parts) (not (isEmpty (keptAt parts k)))
   unfolding candidatesOf whenAnswered
   candidates-read parts e = rw e refl
 
-  pub candidates-unread : (r : Refusal) → readFile s ≡ refused r → candidatesOf s k ≡ refused r
+  pub candidates-unread : (r : Refusal) → partsOf s ≡ refused r → candidatesOf s k ≡ refused r
   unfolding candidatesOf whenAnswered
   candidates-unread r e = rw e refl
 
-  pub name-read : (parts : List FilePart) → readFile s ≡ answered parts → nameOf s k ≡ whenDone (firstNo (ask (BadHandSet 0) (isPartNumber k parts) ∷ [])) (answered (nthOr noPart k parts .name))
+  pub name-read : (parts : List PlanPart) → partsOf s ≡ answered parts → nameOf s k ≡ whenDone (firstNo (ask (BadHandSet 0) (isPartNumber k parts) ∷ [])) (answered (partAt parts k .name))
   unfolding nameOf whenAnswered
   name-read parts e = rw e refl
 
-  name-unread : (r : Refusal) → readFile s ≡ refused r → nameOf s k ≡ refused r
+  name-unread : (r : Refusal) → partsOf s ≡ refused r → nameOf s k ≡ refused r
   unfolding nameOf whenAnswered
   name-unread r e = rw e refl
 
-  pub no-budget-10 : (j : ℕ) → (candidatesOf s k ≡ refused (NoBudget j)) ↔ ((j ≡ k) × (p : FilePart) × PartOf s k p × WithoutBudget p)
-  no-budget-10 j = (λ h. to (readFile s) refl h, from)
+  pub no-budget-10 : (j : ℕ) → (candidatesOf s k ≡ refused (NoBudget j)) ↔ ((j ≡ k) × (p : PlanPart) × PartOf s k p × WithoutBudget (p .numbers))
+  no-budget-10 j = (λ h. to (partsOf s) refl h, from)
     where
-      to : (x : Answer (List FilePart)) → readFile s ≡ x → candidatesOf s k ≡ refused (NoBudget j) → (j ≡ k) × (p : FilePart) × PartOf s k p × WithoutBudget p
+      to : (x : Answer (List PlanPart)) → partsOf s ≡ x → candidatesOf s k ≡ refused (NoBudget j) → (j ≡ k) × (p : PlanPart) × PartOf s k p × WithoutBudget (p .numbers)
       to (answered parts) e h =
-          let p = nthOr noPart k parts in
-          let a = asked-10 k (keptPairs p) (isPartNumber k parts) (not (isEmpty (keptPairs p))) j .0 (sym (candidates-read parts e) ∙ h) in
+          let p = partAt parts k in
+          let a = asked-10 k (keptAt parts k) (isPartNumber k parts) (not (isEmpty (keptAt parts k))) j .0 (sym (candidates-read parts e) ∙ h) in
           let n = number-iff k parts .0 (a .1) in
-          (a .0, p, record { parts = parts; readable = read-answered-iff s parts .0 e; from = n .0; to = n .1; is = refl }, no-budget-iff p .0 (a .2))
-      to (refused r) e h = absurd (unread s r (NoBudget j) e (sym (candidates-unread r e) ∙ h) (omega arith))
+          (a .0, p, record { parts = parts; readable = parts-answered-iff s parts .0 e; from = n .0; to = n .1; is = refl }, no-budget-iff (p .numbers) .0 (a .2))
+      to (refused r) e h = absurd (unread s r (NoBudget j) e (sym (candidates-unread r e) ∙ h) refl)
 
-      from : (j ≡ k) × (p : FilePart) × PartOf s k p × WithoutBudget p → candidatesOf s k ≡ refused (NoBudget j)
+      from : (j ≡ k) × (p : PlanPart) × PartOf s k p × WithoutBudget (p .numbers) → candidatesOf s k ≡ refused (NoBudget j)
       from (i, p, d, n) =
-          let q = nthOr noPart k (d .parts) in
-          candidates-read (d .parts) (read-answered-iff s (d .parts) .1 (d .readable))
-          ∙ asked-10 k (keptPairs q) _ _ j .1 (i, number-iff k (d .parts) .1 (d .from, d .to), no-budget-iff q .1 (subst WithoutBudget (sym (d .is)) n))
+          let v = partAt (d .parts) k .numbers in
+          candidates-read (d .parts) (parts-answered-iff s (d .parts) .1 (d .readable))
+          ∙ asked-10 k (keptAt (d .parts) k) _ _ j .1 (i, number-iff k (d .parts) .1 (d .from, d .to), no-budget-iff v .1 (subst (λ (p : PlanPart). WithoutBudget (p .numbers)) (sym (d .is)) n))
 
   not-a-part-12 : (j : ℕ) → (candidatesOf s k ≡ refused (BadHandSet j)) ↔ ((j ≡ 0) × NotAPart s k)
-  not-a-part-12 j = (λ h. to (readFile s) refl h, from)
+  not-a-part-12 j = (λ h. to (partsOf s) refl h, from)
     where
-      to : (x : Answer (List FilePart)) → readFile s ≡ x → candidatesOf s k ≡ refused (BadHandSet j) → (j ≡ 0) × NotAPart s k
-      to (answered parts) e h = let a = asked-12 k (keptPairs (nthOr noPart k parts)) _ _ j .0 (sym (candidates-read parts e) ∙ h) in (a .0, not-a-part parts e (a .1))
-      to (refused r) e h = absurd (unread s r (BadHandSet j) e (sym (candidates-unread r e) ∙ h) (omega arith))
+      to : (x : Answer (List PlanPart)) → partsOf s ≡ x → candidatesOf s k ≡ refused (BadHandSet j) → (j ≡ 0) × NotAPart s k
+      to (answered parts) e h = let a = asked-12 k (keptAt parts k) _ _ j .0 (sym (candidates-read parts e) ∙ h) in (a .0, not-a-part parts e (a .1))
+      to (refused r) e h = absurd (unread s r (BadHandSet j) e (sym (candidates-unread r e) ∙ h) refl)
 
       from : (j ≡ 0) × NotAPart s k → candidatesOf s k ≡ refused (BadHandSet j)
       from (i, n) =
-          candidates-read (n .parts) (read-answered-iff s (n .parts) .1 (n .readable)) ∙ asked-12 k (keptPairs (nthOr noPart k (n .parts))) _ (not (isEmpty (keptPairs (nthOr noPart k (n .parts))))) j .1 (i, no-number n)
+          candidates-read (n .parts) (parts-answered-iff s (n .parts) .1 (n .readable)) ∙ asked-12 k (keptAt (n .parts) k) _ (not (isEmpty (keptAt (n .parts) k))) j .1 (i, no-number n)
 
   no-name-12 : (j : ℕ) → (nameOf s k ≡ refused (BadHandSet j)) ↔ ((j ≡ 0) × NotAPart s k)
-  no-name-12 j = (λ h. to (readFile s) refl h, from)
+  no-name-12 j = (λ h. to (partsOf s) refl h, from)
     where
-      to : (x : Answer (List FilePart)) → readFile s ≡ x → nameOf s k ≡ refused (BadHandSet j) → (j ≡ 0) × NotAPart s k
-      to (answered parts) e h = let a = only-12 (nthOr noPart k parts .name) _ j .0 (sym (name-read parts e) ∙ h) in (a .0, not-a-part parts e (a .1))
-      to (refused r) e h = absurd (unread s r (BadHandSet j) e (sym (name-unread r e) ∙ h) (omega arith))
+      to : (x : Answer (List PlanPart)) → partsOf s ≡ x → nameOf s k ≡ refused (BadHandSet j) → (j ≡ 0) × NotAPart s k
+      to (answered parts) e h = let a = only-12 (partAt parts k .name) _ j .0 (sym (name-read parts e) ∙ h) in (a .0, not-a-part parts e (a .1))
+      to (refused r) e h = absurd (unread s r (BadHandSet j) e (sym (name-unread r e) ∙ h) refl)
 
       from : (j ≡ 0) × NotAPart s k → nameOf s k ≡ refused (BadHandSet j)
-      from (i, n) = name-read (n .parts) (read-answered-iff s (n .parts) .1 (n .readable)) ∙ only-12 (nthOr noPart k (n .parts) .name) _ j .1 (i, no-number n)
+      from (i, n) = name-read (n .parts) (parts-answered-iff s (n .parts) .1 (n .readable)) ∙ only-12 (partAt (n .parts) k .name) _ j .1 (i, no-number n)
 
 -- supply
 module _ (P Q t : ℕ) where
@@ -207,7 +214,7 @@ module _ (s : List ℕ) (room : ℕ) where
   NoRoomFor = (u : List ℕ) × (planOf s (length u) ≡ answered u) × (room < length u)
 
   no-room-iff : (planOf s room ≡ refused NoRoom) ↔ NoRoomFor
-  no-room-iff = go (readFile s) refl
+  no-room-iff = go (partsOf s) refl
     where
       unplanned : (r : Refusal) → ((n : ℕ) → planOf s n ≡ refused r) → (r ≡ NoRoom → ⊥) → (planOf s room ≡ refused NoRoom) ↔ NoRoomFor
       unplanned r are other = ((λ e. absurd (other (answer-same-refusal (sym (are room) ∙ e)))), λ h. absurd (answered-not-refused (sym (h .1) ∙ are _)))
@@ -225,23 +232,56 @@ module _ (s : List ℕ) (room : ℕ) where
               go true f = answer-same-value (sym e ∙ are (length x) ∙ rw f refl)
               go false f = absurd (answered-not-refused {r = NoRoom} (sym e ∙ are (length x) ∙ rw f refl))
 
-      read : (ps : List FilePart) → readFile s ≡ answered ps → (b : Bool) → everyKept ps ≡ b → (c : Bool) → some passesSystem (keptChoices ps) ≡ c → (planOf s room ≡ refused NoRoom) ↔ NoRoomFor
-      read ps e false p c q = unplanned _ (λ n. plan-parts s ps n e ∙ refused-10 ps n p) (λ h. let z : _≡_ {A = ℕ} 0 1 = cc h in omega arith)
-      read ps e true p false q = unplanned _ (λ n. plan-parts s ps n e ∙ refused-11 ps n p q) (λ h. let z : _≡_ {A = ℕ} 0 1 = cc h in omega arith)
-      read ps e true p true q = planned (text ps) (λ n. plan-parts s ps n e ∙ planned-or-14 ps n p q)
+      read : (ps : List PlanPart) → partsOf s ≡ answered ps → (b : Bool) → everyKept (partitions ps) ≡ b → (c : Bool) → some passesSystem (keptChoices (partitions ps)) ≡ c → (planOf s room ≡ refused NoRoom) ↔ NoRoomFor
+      read ps e false p c q = unplanned _ (λ n. refused-10 s ps n e p) (λ h. let z : _≡_ {A = ℕ} 0 1 = cc h in omega arith)
+      read ps e true p false q = unplanned _ (λ n. refused-11 s ps n e p q) (λ h. let z : _≡_ {A = ℕ} 0 1 = cc h in omega arith)
+      read ps e true p true q = planned (text ps) (λ n. planned-or-14 s ps n e p q)
 
-      go : (x : Answer (List FilePart)) → readFile s ≡ x → (planOf s room ≡ refused NoRoom) ↔ NoRoomFor
-      go (answered ps) e = read ps e (everyKept ps) refl (some passesSystem (keptChoices ps)) refl
-      go (refused r) e = unplanned r (plan-unread s r e) (λ h. omega (arith, read-refused-to-nine s r e, ap refusalNumber h))
+      go : (x : Answer (List PlanPart)) → partsOf s ≡ x → (planOf s room ≡ refused NoRoom) ↔ NoRoomFor
+      go (answered ps) e = read ps e (everyKept (partitions ps)) refl (some passesSystem (keptChoices (partitions ps))) refl
+      go (refused r) e = unplanned r (plan-unread s r e) (unread-by-no-other s r NoRoom e refl)
 
 many-refused : (rows : Rows) → rowLimit < rows .count → weighRows rows .outcome ≡ Refused (BadHandSet 0)
 unfolding weighed
 many-refused rows h = ap (λ (w : Weighed). w .outcome) (weigh-many rows h)
 
+-- questions 10, 11 and 14 of a plan, asked one behind another
+done-before : (qs more : List Question) → firstNo qs ≡ Done → firstNo (qs ++ more) ≡ firstNo more
+unfolding firstNo
+done-before [] more e = refl
+done-before (q ∷ qs) more e = go (q .yes) refl (done-before qs more)
+  where
+    go : (b : Bool) → q .yes ≡ b → (firstNo qs ≡ Done → firstNo (qs ++ more) ≡ firstNo more) → firstNo (q ∷ (qs ++ more)) ≡ firstNo more
+    go true f ih = yes-next q (qs ++ more) f ∙ ih (sym (yes-next q qs f) ∙ e)
+    go false f ih = absurd (done-not-refused (sym e ∙ no-answers q qs f))
+
+module _ (s : List ℕ) (room : ℕ) where
+  at-once : (ps : List PlanPart) → whenAnswered (chosenPlan ps) (listedIn room) ≡ whenDone (firstNo (planQuestions room ps)) (answered (text ps))
+  unfolding chosenPlan chosenRows listedIn whenAnswered whenDone
+  at-once ps = go (firstNo (choiceQuestions (offered (partitions ps)))) refl
+    where
+      more : List Question
+      more = ask NoRoom (leb (length (text ps)) room) ∷ []
+
+      go : (o : Outcome) → firstNo (choiceQuestions (offered (partitions ps))) ≡ o → whenAnswered (chosenPlan ps) (listedIn room) ≡ whenDone (firstNo (planQuestions room ps)) (answered (text ps))
+      go Done e = rw (e, done-before (choiceQuestions (offered (partitions ps))) more e) refl
+      go (Refused r) e = rw (e, refused-before (choiceQuestions (offered (partitions ps))) more r e) refl
+
+  plan-at-once : planOf s room ≡ whenAnswered (partsOf s) (λ ps. whenDone (firstNo (planQuestions room ps)) (answered (text ps)))
+  unfolding planOf planFile whenAnswered
+  plan-at-once = go (partsOf s) refl
+    where
+      go : (x : Answer (List PlanPart)) → partsOf s ≡ x → planOf s room ≡ whenAnswered (partsOf s) (λ ps. whenDone (firstNo (planQuestions room ps)) (answered (text ps)))
+      go (answered ps) e = rw e (at-once ps)
+      go (refused r) e = rw e refl
+
+  plan-iff : (r : Refusal) → (planOf s room ≡ refused r) ↔ RefusedBehind s (planQuestions room) r
+  plan-iff r = let iff = refused-behind-iff s (planQuestions room) text r in ((λ e. iff .0 (sym plan-at-once ∙ e)), λ d. plan-at-once ∙ iff .1 d)
+
 pub every-refusal : EveryRefusal
-unfolding planOf planParts candidatesOf nameOf weighOf weighRows supplyAnswer
+unfolding candidatesOf nameOf weighOf weighRows supplyAnswer
 every-refusal = record {
-  plan = λ s room r. refused-behind-iff s (λ parts. planQuestions (map keptRows parts) (planText parts (planRows (map keptRows parts))) room) (λ parts. planText parts (planRows (map keptRows parts))) r;
+  plan = plan-iff;
   candidates = λ s k r. refused-behind-iff s _ _ r;
   name = λ s k r. refused-behind-iff s _ _ r;
   weigh = λ rows r. weighed-iff (weighQuestions rows) rows r;

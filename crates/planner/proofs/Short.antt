@@ -6,23 +6,22 @@ use mathlib.Core.Path.{_≡_, refl, sym, ap, subst, _∙_}
 use mathlib.Core.List.{List, [], _∷_, List·Memᴰ, List·Memᴰ·head, List·Memᴰ·tail, Memᴰ·map}
 use borrow.Author.Tests.{leb-true}
 use lib.Dec.{leb}
-use lib.ListN.{length, length-map}
+use lib.ListN.{length}
 use Rattle.least.specs.Each.{Each}
 use Rattle.least.specs.Each.Each.{more}
 use Rattle.least.proofs.Each.{length-equal}
 use Rattle.least.proofs.Lists.{and-iff, map-iff, every-range}
-use Rattle.refusal.specs.Limits.{numberLimit, partLimit, taskLimit}
-use Rattle.task_set.specs.declared.Task.{Task}
+use Rattle.refusal.specs.Limits.{numberLimit, partLimit}
 use Rattle.task_set.specs.Blocking.{Setting}
 use Rattle.task_set.specs.Tasks.{lowestCeiling}
+use Rattle.task_set.specs.Partition.{Partition}
+use Rattle.load.specs.declared.Row.{Row}
+use Rattle.load.proofs.Load.{boundsOf-small}
 use Rattle.holding.specs.Holding.{inRange}
 use Rattle.candidates.specs.Statement.{Permitted}
 use Rattle.candidates.proofs.Shown.{deadlines-holding}
-use Rattle.load.specs.declared.Row.{Row}
-use Rattle.load.proofs.Load.{boundsOf-small}
-use Rattle.plan_file.specs.Above.{FilePart, lockNames}
-use Rattle.plan_file.specs.Numbers.{lockCount, taskIn, tasksIn}
-use Rattle.plan_file.proofs.Fine.{FineFilePart, AllFine}
+use Rattle.plan_file.specs.Numbers.{PlanPart}
+use Rattle.plan_file.proofs.PlanParts.{FinePlanPart, AllPartsFine}
 use Rattle.listing.specs.Listing.{Ceiling, Share, ceilingsUnder}
 use Rattle.listing.proofs.Lengths.{listingLimit, ShortCeiling, ShortShare, listing-most}
 use Rattle.planning.proofs.Weighed.{deadline-most}
@@ -55,36 +54,31 @@ under-member σ l (name ∷ names) c (List·Memᴰ·tail m) =
     record { named = List·Memᴰ·tail (r .named); at = r .at; from = omega (arith, r .from); to = omega (arith, r .to); is = r .is }
 
 -- a ceiling is a task number
-ceiling-most : (ts : List Task) (m : ℕ) (σ : Setting) → Permitted ts m σ → (l : ℕ) → 1 ≤ l → l ≤ m → σ l ≤ length ts
+ceiling-most : (v : Partition) (σ : Setting) → Permitted v σ → (l : ℕ) → 1 ≤ l → l ≤ v .locks → σ l ≤ length (v .tasks)
 unfolding inRange
-ceiling-most ts m σ h l a b =
-    leb-true (σ l) (length ts) (and-iff (leb (lowestCeiling l ts) (σ l)) (leb (σ l) (length ts)) .0 (every-range (λ k. _) 1 m .0 (h .ranged) l a b) .1)
-
-tasks-few : (p : FilePart) → FineFilePart p → length (tasksIn p) ≤ taskLimit
-unfolding tasksIn
-tasks-few p fine = rw (length-map (p .tasks) (taskIn (lockNames p))) (fine .few-tasks)
+ceiling-most v σ h l a b =
+    leb-true (σ l) (length (v .tasks)) (and-iff (leb (lowestCeiling l (v .tasks)) (σ l)) (leb (σ l) (length (v .tasks))) .0 (every-range (λ k. _) 1 (v .locks) .0 (h .ranged) l a b) .1)
 
 -- what is printed of a part
-module _ (p : FilePart) (fine : FineFilePart p) (s : Share) (h : PrintedShare p s) where
-  period-is : s .row .period ≡ p .period
+module _ (p : PlanPart) (fine : FinePlanPart p) (s : Share) (h : PrintedShare p s) where
+  period-is : s .row .period ≡ p .numbers .period
   period-is = ap (λ (r : Row). r .period) (h .is)
 
   ceilings-few : length (s .ceilings) ≤ 8
-  ceilings-few = omega (arith, ap length (h .ceilings), under-length (shownFor p s) 1 (lockNames p), fine .few-locks)
+  ceilings-few = omega (arith, ap length (h .ceilings), under-length (shownFor p s) 1 (p .locks), fine .few-locks, fine .locks-are)
 
   ceiling-short : (c : Ceiling) → List·Memᴰ c (s .ceilings) → ShortCeiling c
-  unfolding lockCount
   ceiling-short c m =
-      let r = under-member (shownFor p s) 1 (lockNames p) c (subst (List·Memᴰ c) (h .ceilings) m) in
-      let n = ceiling-most (tasksIn p) (lockCount p) (shownFor p s) (h .local .allowed) (r .at) (r .from) (omega (arith, r .to)) in
-      record { lock = fine .lock-names-most (c .lock) (r .named); number = omega (arith, r .is, n, tasks-few p fine) }
+      let r = under-member (shownFor p s) 1 (p .locks) c (subst (List·Memᴰ c) (h .ceilings) m) in
+      let n = ceiling-most (p .numbers) (shownFor p s) (h .local .allowed) (r .at) (r .from) (omega (arith, r .to, fine .locks-are)) in
+      record { lock = fine .lock-names-most (c .lock) (r .named); number = omega (arith, r .is, n, fine .few-tasks) }
 
   share-short : s .bound .num ≤ numberLimit → s .bound .den ≤ numberLimit → ShortShare s
   share-short num den = record {
     name = omega (arith, ap length (h .name), fine .name-most);
     period = omega (arith, period-is, fine .period-most);
     budget = omega (arith, ap (λ (r : Row). r .budget) (h .is), h .local .most, fine .period-most);
-    holding = omega (arith, ap (λ (r : Row). r .holding) (h .is), deadlines-holding (tasksIn p) (lockCount p) numberLimit (deadline-most p fine) (shownFor p s) (h .local .allowed));
+    holding = omega (arith, ap (λ (r : Row). r .holding) (h .is), deadlines-holding (p .numbers) numberLimit (deadline-most p fine) (shownFor p s) (h .local .allowed));
     num = num;
     den = den;
     few = ceilings-few;
@@ -95,13 +89,13 @@ each-right : {A B : Type 0} {R : A → B → Type 0} {xs : List A} {ys : List B}
 each-right {R = R} y (more {x = x} h hs) (List·Memᴰ·head e) = (x, List·Memᴰ·head refl, subst (R x) (sym e) h)
 each-right y (more h hs) (List·Memᴰ·tail m) = let r = each-right y hs m in (r .0, List·Memᴰ·tail (r .1), r .2)
 
-module _ {ps : List FilePart} {text : List ℕ} (fine : AllFine ps) (p : Printed ps text) where
+module _ {ps : List PlanPart} {text : List ℕ} (fine : AllPartsFine ps) (p : Printed ps text) where
   rows-served : (r : Row) → List·Memᴰ r (printedRows (p .shares)) → (1 ≤ r .period) × (r .period ≤ numberLimit)
   rows-served r m =
       let x = map-iff (λ s. s .row) r (p .shares) .0 m in
       let q = each-right (x .0) (p .choice) (x .1) in
       let f = fine (q .0) (q .1) in
-      let e : r .period ≡ q .0 .period = ap (λ (k : Row). k .period) (sym (x .2)) ∙ period-is (q .0) f (x .0) (q .2) in
+      let e : r .period ≡ q .0 .numbers .period = ap (λ (k : Row). k .period) (sym (x .2)) ∙ period-is (q .0) f (x .0) (q .2) in
       (omega (arith, e, f .period-some), omega (arith, e, f .period-most))
 
   shares-short : (s : Share) → List·Memᴰ s (p .shares) → ShortShare s

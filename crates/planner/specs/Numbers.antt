@@ -1,6 +1,6 @@
 -- Demand 2, its half about numbers: what every number of an answer is, by the paper's sentence. The holding times, blockings and budgets of the kept
 -- pairs are in LocalTest; what a plan prints is demand 3.
---   KeptIs p a      == a has the kept pairs of the part p, in falling X, up to 121, and their count
+--   KeptIs v a      == a has the kept pairs of the partition v, in falling X, up to 121, and their count
 --   NameAt s k p n  == n is the stretch of the name of part k, which is p, on its `part` line
 --   EveryNumber     == the numbers of the five operations, answered and refused
 -- Assumes nothing.
@@ -14,23 +14,23 @@ use Rattle.least.specs.Lists.{nthOr, pad}
 use Rattle.least.specs.Fraction.{frac}
 use Rattle.refusal.specs.declared.Refusal.{Refusal}
 use Rattle.refusal.specs.declared.Outcome.the-variants.{Done, Refused}
-use Rattle.refusal.specs.Limits.{rowLimit}
+use Rattle.refusal.specs.Limits.{rowLimit, keptLimit}
 use Rattle.refusal.specs.Questions.Answer.{answered, refused}
-use Rattle.supply.specs.Signed.{signedSupply}
 use Rattle.stretch.specs.Stretch.{bytesOf}
+use Rattle.supply.specs.Signed.{signedSupply}
 use Rattle.task_set.specs.Blocking.{Setting}
-use Rattle.candidates.specs.declared.Pair.{Pair}
-use Rattle.candidates.specs.declared.Kept.{Kept}
-use Rattle.candidates.specs.Candidates.{pair}
-use Rattle.candidates.specs.Statement.{IsKept}
+use Rattle.task_set.specs.Partition.{Partition}
 use Rattle.load.specs.declared.Row.{Row}
 use Rattle.load.specs.declared.Rows.{Rows}
 use Rattle.load.specs.declared.Weighed.{Weighed}
 use Rattle.load.specs.Weigh.{weighOf, weighRows}
-use Rattle.plan_file.specs.Above.{FilePart}
-use Rattle.plan_file.specs.Entries.{noSpan}
-use Rattle.plan_file.specs.Numbers.{lockCount, tasksIn}
-use Rattle.plan_file.specs.Stretches.{nameSpans}
+use Rattle.candidates.specs.declared.Pair.{Pair}
+use Rattle.candidates.specs.declared.Kept.{Kept}
+use Rattle.candidates.specs.Candidates.{pair}
+use Rattle.candidates.specs.Statement.{IsKept}
+use Rattle.plan_file.specs.Stretches.{noSpan, nameSpans}
+use Rattle.plan_file.specs.Numbers.{PlanPart}
+use Rattle.plan_file.specs.PartLines.{linesOfPart}
 use Rattle.answers.specs.Answers.{planOf, planned, candidatesOf, candidateList, nameOf, nameBytes, supplyAnswer, supplied}
 use Rattle.answers.specs.Choice.{Budgeted}
 use Rattle.inquiries.specs.declared.NameStretch.{NameStretch}
@@ -38,19 +38,19 @@ use Rattle.inquiries.specs.Stretch.{nameStretch}
 use Rattle.planner.specs.Weighing.{WeighedIs}
 use Rattle.planner.specs.Refusals.{PartOf, SupplyFits}
 
-pub record KeptIs (p : FilePart) (a : Kept) : Type 0 where
+pub record KeptIs (v : Partition) (a : Kept) : Type 0 where
   pub list : List Pair
   -- exactly the kept pairs, over every setting and every budget
-  pub members : (c : Pair) → List·Memᴰ c list ↔ IsKept (p .period) (tasksIn p) (lockCount p) c
+  pub members : (c : Pair) → List·Memᴰ c list ↔ IsKept v c
   -- in falling X
   pub falling : (i j : ℕ) → 1 ≤ i → i < j → j ≤ length list → nthOr (pair 0 0) j list .holding < nthOr (pair 0 0) i list .holding
   -- up to 121 pairs
-  pub few : length list ≤ 121
+  pub few : length list ≤ keptLimit
   pub count : a .count ≡ length list
   -- in their places, and unused places are zero
-  pub pairs : a .pairs ≡ pad 121 (pair 0 0) list
+  pub pairs : a .pairs ≡ pad keptLimit (pair 0 0) list
 
-pub record NameAt (s : List ℕ) (k : ℕ) (p : FilePart) (n : NameStretch) : Type 0 where
+pub record NameAt (s : List ℕ) (k : ℕ) (p : PlanPart) (n : NameStretch) : Type 0 where
   pub done : n .outcome ≡ Done
   -- the stretch on the k-th `part` line
   pub span : n .span ≡ nthOr noSpan k (nameSpans s)
@@ -67,12 +67,14 @@ pub record EveryNumber : Type 0 where
   -- weighing gives every row's bound and the load
   pub weigh : (rows : List Row) → weighOf rows .outcome ≡ Done → WeighedIs rows (weighOf rows)
   -- candidates are answered exactly if some permitted setting of the part has a budget
-  pub candidates : (s : List ℕ) (k : ℕ) → (candidateList (candidatesOf s k) .outcome ≡ Done) ↔ ((p : FilePart) × PartOf s k p × (σ : Setting) × (Q : ℕ) × Budgeted p σ Q)
+  pub candidates : (s : List ℕ) (k : ℕ) → (candidateList (candidatesOf s k) .outcome ≡ Done) ↔ ((p : PlanPart) × PartOf s k p × (σ : Setting) × (Q : ℕ) × Budgeted (p .numbers) σ Q)
   -- the candidate answer is the kept pairs (Q,X) and their count
-  pub kept : (s : List ℕ) (k : ℕ) (p : FilePart) → PartOf s k p → KeptIs p (candidateList (candidatesOf s k) .kept)
+  pub kept : (s : List ℕ) (k : ℕ) (p : PlanPart) → PartOf s k p → KeptIs (p .numbers) (candidateList (candidatesOf s k) .kept)
+  -- in two files with the same lines for one part, that part's list is the same
+  pub same-lines : (s u : List ℕ) (j k : ℕ) (p q : PlanPart) → PartOf s j p → PartOf u k q → linesOfPart j s ≡ linesOfPart k u → candidateList (candidatesOf s j) .kept ≡ candidateList (candidatesOf u k) .kept
   -- the name of a part is handed back as that stretch of the caller's own file
-  pub name : (s : List ℕ) (k : ℕ) (p : FilePart) → PartOf s k p → nameBytes (nameOf s k) ≡ p .name
-  pub stretch : (s : List ℕ) (k : ℕ) (p : FilePart) → PartOf s k p → NameAt s k p (nameStretch s k)
+  pub name : (s : List ℕ) (k : ℕ) (p : PlanPart) → PartOf s k p → nameBytes (nameOf s k) ≡ p .name
+  pub stretch : (s : List ℕ) (k : ℕ) (p : PlanPart) → PartOf s k p → NameAt s k p (nameStretch s k)
   -- a plan counts the bytes it wrote
   pub plan : (s : List ℕ) (room : ℕ) (text : List ℕ) → planOf s room ≡ answered text → planned (planOf s room) ≡ record { outcome = Done; written = length text }
   -- a refusal consists of its number and its place, with every other number of the answer zero
@@ -80,7 +82,7 @@ pub record EveryNumber : Type 0 where
   pub refused-weigh : (rows : List Row) (r : Refusal) → weighOf rows .outcome ≡ Refused r → weighOf rows ≡ notWeighed r
   pub refused-weigh-struct : (rows : Rows) (r : Refusal) → weighRows rows .outcome ≡ Refused r → weighRows rows ≡ notWeighed r
   pub refused-candidates : (s : List ℕ) (k : ℕ) (r : Refusal) → candidatesOf s k ≡ refused r
-      → candidateList (candidatesOf s k) ≡ record { outcome = Refused r; kept = record { pairs = replicate 121 (pair 0 0); count = 0 } }
+      → candidateList (candidatesOf s k) ≡ record { outcome = Refused r; kept = record { pairs = replicate keptLimit (pair 0 0); count = 0 } }
   pub refused-name : (s : List ℕ) (k : ℕ) (r : Refusal) → nameOf s k ≡ refused r → nameBytes (nameOf s k) ≡ []
   pub refused-stretch : (s : List ℕ) (k : ℕ) (r : Refusal) → nameOf s k ≡ refused r → nameStretch s k ≡ record { outcome = Refused r; span = record { start = 0; len = 0 } }
   pub refused-plan : (s : List ℕ) (room : ℕ) (r : Refusal) → planOf s room ≡ refused r → planned (planOf s room) ≡ record { outcome = Refused r; written = 0 }

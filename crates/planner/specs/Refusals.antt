@@ -1,5 +1,6 @@
 -- Demand 2, its half about refusals: each refusal comes if its question has the answer no and those before it have yes, and in no other case.
 --   RefusedBehind s questions r == the file s is refused with r by questions 1 to 9, or it is readable and r comes from the questions of its parts
+--   planQuestions room ps == what a plan asks, in this order, behind questions 1 to 9
 --   PartOf s k p     == the file s is readable, and p is its part k
 --   NotAPart s k     == the file s is readable, and k is not the number of a part
 --   SupplyFits P Q t == 1 ≤ Q ≤ P ≤ 1,000,000 and t ≤ 1,000,000
@@ -8,38 +9,44 @@
 use Prim.Native.Nat.{ℕ, _≤_, _<_}
 use mathlib.Core.Path.{_≡_}
 use mathlib.Core.Logic.{_⊎_, _↔_}
-use mathlib.Core.List.{List, map}
+use mathlib.Core.List.{List, [], _∷_, _++_}
 use lib.ListN.{length}
-use Rattle.least.specs.Lists.{nthOr}
+use lib.Dec.{leb}
 use Rattle.refusal.specs.declared.Refusal.{Refusal}
 use Rattle.refusal.specs.declared.Refusal.the-variants.{NoBudget, BadHandSet, NoTime, NoRoom}
 use Rattle.refusal.specs.declared.Outcome.the-variants.{Refused}
 use Rattle.refusal.specs.Limits.{numberLimit, rowLimit}
-use Rattle.refusal.specs.Questions.{Question}
+use Rattle.refusal.specs.Questions.{Question, ask}
 use Rattle.refusal.specs.Questions.Answer.{answered, refused}
 use Rattle.refusal.specs.FirstNo.{FirstNo}
 use Rattle.load.specs.declared.Row.{Row}
 use Rattle.load.specs.declared.Rows.{Rows}
 use Rattle.load.specs.Weigh.{weighQuestions, weighOf, rowsOf, structQuestions, weighRows}
-use Rattle.plan_file.specs.Above.{FilePart, noPart}
+use Rattle.selection.specs.Questions.{choiceQuestions}
 use Rattle.plan_file.specs.Statement.{RefusedAt, AnsweredBy}
-use Rattle.answers.specs.Parts.{keptRows}
-use Rattle.answers.specs.Answers.{planRows, planText, planQuestions, planOf, candidateQuestions, candidatesOf, nameQuestions, nameOf, supplyQuestions, supplyAnswer}
+use Rattle.plan_file.specs.Numbers.{PlanPart, partAt}
+use Rattle.answers.specs.Answers.{planOf, candidateQuestions, candidatesOf, nameQuestions, nameOf, supplyQuestions, supplyAnswer}
 use Rattle.answers.specs.Choice.{WithoutBudget}
+use Rattle.answers.specs.Plan.{partitions, offered, leastRows, planText}
 use Rattle.planner.specs.Weighing.{CountFits, BadRowAt, NoTimeAt}
 
-abbrev pub RefusedBehind : List ℕ → (List FilePart → List Question) → Refusal → Type 0
-RefusedBehind s questions r = RefusedAt s r ⊎ ((parts : List FilePart) × AnsweredBy s parts × FirstNo (questions parts) r)
+abbrev pub RefusedBehind : List ℕ → (List PlanPart → List Question) → Refusal → Type 0
+RefusedBehind s questions r = RefusedAt s r ⊎ ((parts : List PlanPart) × AnsweredBy s parts × FirstNo (questions parts) r)
 
-pub record PartOf (s : List ℕ) (k : ℕ) (p : FilePart) : Type 0 where
-  pub parts : List FilePart
+-- questions 10, 11 and 14 of a plan of these parts
+abbrev pub planQuestions : ℕ → List PlanPart → List Question
+planQuestions room ps =
+    choiceQuestions (offered (partitions ps)) ++ (ask NoRoom (leb (length (planText (record { parts = ps; rows = leastRows (partitions ps) }))) room) ∷ [])
+
+pub record PartOf (s : List ℕ) (k : ℕ) (p : PlanPart) : Type 0 where
+  pub parts : List PlanPart
   pub readable : AnsweredBy s parts
   pub from : 1 ≤ k
   pub to : k ≤ length parts
-  pub is : nthOr noPart k parts ≡ p
+  pub is : partAt parts k ≡ p
 
 pub record NotAPart (s : List ℕ) (k : ℕ) : Type 0 where
-  pub parts : List FilePart
+  pub parts : List PlanPart
   pub readable : AnsweredBy s parts
   pub none : 1 ≤ k → k ≤ length parts → ⊥
 
@@ -52,14 +59,14 @@ pub record SupplyFits (P Q t : ℕ) : Type 0 where
 pub record EveryRefusal : Type 0 where
   -- the refusal of every operation is that of the first question with the answer no
   pub plan : (s : List ℕ) (room : ℕ) (r : Refusal) → (planOf s room ≡ refused r) ↔
-      RefusedBehind s (λ parts. let kept = map keptRows parts in planQuestions kept (planText parts (planRows kept)) room) r
+      RefusedBehind s (planQuestions room) r
   pub candidates : (s : List ℕ) (k : ℕ) (r : Refusal) → (candidatesOf s k ≡ refused r) ↔ RefusedBehind s (candidateQuestions k) r
   pub name : (s : List ℕ) (k : ℕ) (r : Refusal) → (nameOf s k ≡ refused r) ↔ RefusedBehind s (nameQuestions k) r
   pub weigh : (rows : List Row) (r : Refusal) → (weighOf rows .outcome ≡ Refused r) ↔ FirstNo (weighQuestions rows) r
   pub weigh-struct : (rows : Rows) (r : Refusal) → (weighRows rows .outcome ≡ Refused r) ↔ FirstNo (structQuestions rows) r
   pub supply : (P Q t : ℕ) (r : Refusal) → (supplyAnswer P Q t ≡ refused r) ↔ FirstNo (supplyQuestions P Q t) r
   -- 10 of candidates, for that part alone (its number); of a plan, see `Demand3`
-  pub candidates-10 : (s : List ℕ) (k j : ℕ) → (candidatesOf s k ≡ refused (NoBudget j)) ↔ ((j ≡ k) × (p : FilePart) × PartOf s k p × WithoutBudget p)
+  pub candidates-10 : (s : List ℕ) (k j : ℕ) → (candidatesOf s k ≡ refused (NoBudget j)) ↔ ((j ≡ k) × (p : PlanPart) × PartOf s k p × WithoutBudget (p .numbers))
   -- 12: is the part number that of a part in the file?
   pub candidates-12 : (s : List ℕ) (k j : ℕ) → (candidatesOf s k ≡ refused (BadHandSet j)) ↔ ((j ≡ 0) × NotAPart s k)
   pub name-12 : (s : List ℕ) (k j : ℕ) → (nameOf s k ≡ refused (BadHandSet j)) ↔ ((j ≡ 0) × NotAPart s k)

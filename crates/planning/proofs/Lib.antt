@@ -1,3 +1,4 @@
 pub mod Planning
+pub mod Choosing
 pub mod Weighed
 pub mod Answering

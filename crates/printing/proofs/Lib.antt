@@ -1,2 +1,2 @@
-pub mod Ceilings
 pub mod Shares
+pub mod Ceilings

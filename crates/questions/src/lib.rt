@@ -5,7 +5,7 @@ use records::Shape;
 use refusal::Refusal;
 ghost use mathlib.Core.Path.{_≡_};
 ghost use mathlib.Core.Bool.{_&&_};
-ghost use Rattle.plan_file.specs.Entries.{FineSeen, endEntry, entryOf};
+ghost use Rattle.plan_file.specs.Code.Entries.{FineSeen, endEntry, entryOf};
 
 fn ask_end(line: u64, allowed: bool) -> Entry
     ensures { λ r. ⌜ r ≡ endEntry line allowed ⌝ }

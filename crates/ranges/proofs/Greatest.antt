@@ -7,10 +7,9 @@ use native.Mathlib.Decide.{decLe}
 use mathlib.Core.Path.{_≡_, refl, sym, ap, subst, _∙_}
 use mathlib.Core.Logic.{⊎-elim}
 use mathlib.Core.List.{List, _∷_, _++_, List·Memᴰ, List·Memᴰ·head, List·Memᴰ·tail, List·Memᴰ·not-nil, Memᴰ·append-left, Memᴰ·append-right}
-use lib.ListN.{length, drop, take, length-append, length-map, length-drop}
+use lib.ListN.{length, drop, take, length-append, length-drop}
 use Rattle.least.specs.declared.Frac.{Frac}
 use Rattle.least.specs.Round.{ceilDiv}
-use Rattle.least.specs.Lists.{nthOr}
 use Rattle.least.proofs.Round.{ceil-under, ceil-least, ceil-le, ceil-pos, product}
 use Rattle.least.proofs.Lists.{nth-member}
 use Rattle.least.proofs.Members.{take-member, drop-member}
@@ -24,28 +23,26 @@ use Rattle.supply.specs.Supply.{roundOf}
 use Rattle.task_set.specs.declared.Task.{Task}
 use Rattle.task_set.specs.Tasks.{heldFor, higher, demandIn, greatestHeld}
 use Rattle.task_set.specs.Blocking.{Setting, blockingOf}
-use Rattle.task_set.specs.Fine.{FineTask}
+use Rattle.task_set.specs.Code.Fine.{FineTask}
 use Rattle.load.specs.declared.Row.{Row}
 use Rattle.load.specs.Load.{row, rowSum, demandOf, loadAt, boundsOf}
 use Rattle.load.proofs.Load.{boundsOf-small}
-use Rattle.plan_file.specs.Above.{FilePart, noPart, lockNames}
-use Rattle.plan_file.specs.Reading.{readFile}
-use Rattle.plan_file.specs.Numbers.{lockCount, taskIn, tasksIn}
-use Rattle.plan_file.proofs.Reading.{read-answered-iff}
-use Rattle.plan_file.proofs.Fine.{FineFilePart, read-fine, read-few}
-use Rattle.plan_file.proofs.FineTasks.{each-task-fine}
+use Rattle.plan_file.specs.Above.{noPart}
+use Rattle.plan_file.specs.Numbers.{PlanPart, partsOf, partAt, planPart}
+use Rattle.plan_file.proofs.Reading.{parts-answered-iff}
+use Rattle.plan_file.proofs.PlanParts.{FinePlanPart, parts-fine, parts-few}
+use Rattle.listing.proofs.Lengths.{listingLimit}
 use Rattle.answers.specs.Answers.{planOf}
 use Rattle.planning.proofs.Answering.{plan-unread}
 use Rattle.planner.specs.Demand3.{Demanded}
 use Rattle.planner.specs.Demand3.Demanded.{none-passes, fits, too-long}
 use Rattle.planner.specs.SystemTest.{rowAt, L}
 use Rattle.planner.specs.Refusals.{PartOf, SupplyFits}
-use Rattle.listing.proofs.Lengths.{listingLimit}
 use Rattle.planner.proofs.Demand3.{plan-demanded}
 use Rattle.planner.proofs.LocalTest.{local-test}
 use Rattle.planner.proofs.Short.{printed-most}
-use Rattle.ranges.proofs.Reached.{need-reached, supply-reached, load-reached}
 use Rattle.ranges.specs.Ranges.{Weighable, greatestNeed, greatestLoad, GreatestValues}
+use Rattle.ranges.proofs.Reached.{need-reached, supply-reached, load-reached}
 
 -- a task comes in t ticks for at most t − 1 + T ticks, and once if it comes as seldom as it may
 releases-most : (t T : ℕ) → 1 ≤ T → T ≤ numberLimit → t ≤ numberLimit → ceilDiv t T * T ≤ 2 * (numberLimit - 1)
@@ -56,48 +53,47 @@ releases-most t T h k l = go (decLe t T)
     go (no q) = omega (arith, ceil-under t T h)
 
 -- the tasks of a part of a readable file
-module _ (s : List ℕ) (k : ℕ) (p : FilePart) (d : PartOf s k p) where
-  part-fine : FineFilePart p
-  part-fine = subst FineFilePart (d .is) (read-fine s (d .parts) (read-answered-iff s (d .parts) .1 (d .readable)) (nthOr noPart k (d .parts)) (nth-member noPart k (d .parts) (d .from) (d .to)))
+module _ (s : List ℕ) (k : ℕ) (p : PlanPart) (d : PartOf s k p) where
+  part-fine : FinePlanPart p
+  part-fine = subst FinePlanPart (d .is) (parts-fine s (d .parts) (parts-answered-iff s (d .parts) .1 (d .readable)) (partAt (d .parts) k) (nth-member (planPart noPart) k (d .parts) (d .from) (d .to)))
 
-  task-fine : (x : Task) → List·Memᴰ x (tasksIn p) → FineTask (lockCount p) x
-  task-fine = each-task-fine p part-fine (lockCount p)
+  task-fine : (x : Task) → List·Memᴰ x (p .numbers .tasks) → FineTask (p .numbers .locks) x
+  task-fine = part-fine .each-task (p .numbers .locks)
 
-  few : length (tasksIn p) ≤ taskLimit
-  unfolding tasksIn
-  few = rw (length-map (p .tasks) (taskIn (lockNames p))) (part-fine .few-tasks)
+  few : length (p .numbers .tasks) ≤ taskLimit
+  few = part-fine .few-tasks
 
-  cost-most : (x : Task) → List·Memᴰ x (tasksIn p) → x .cost ≤ numberLimit
+  cost-most : (x : Task) → List·Memᴰ x (p .numbers .tasks) → x .cost ≤ numberLimit
   cost-most x m = let f = task-fine x m in omega (arith, f .cost-most, f .deadline-most, f .separation-most)
 
-  tasks-most : (ts : List Task) → ((x : Task) → List·Memᴰ x ts → List·Memᴰ x (tasksIn p)) → (t : ℕ) → t ≤ numberLimit → demandIn ts t ≤ length ts * (2 * (numberLimit - 1))
+  tasks-most : (ts : List Task) → ((x : Task) → List·Memᴰ x ts → List·Memᴰ x (p .numbers .tasks)) → (t : ℕ) → t ≤ numberLimit → demandIn ts t ≤ length ts * (2 * (numberLimit - 1))
   unfolding demandIn
   tasks-most ts among t h =
       sum-most (λ x. ceilDiv t (x .separation) * x .cost) (2 * (numberLimit - 1)) ts
       (λ x m. let f = task-fine x (among x m) in le-trans (mul-le-mul-left (ceilDiv t (x .separation)) (omega (arith, f .cost-most, f .deadline-most))) (releases-most t (x .separation) (omega (arith, f .cost-some, f .cost-most, f .deadline-most)) (f .separation-most) h))
 
-  held-most : (l : ℕ) → 1 ≤ l → l ≤ lockCount p → (x : Task) → List·Memᴰ x (tasksIn p) → heldFor l x ≤ numberLimit
+  held-most : (l : ℕ) → 1 ≤ l → l ≤ p .numbers .locks → (x : Task) → List·Memᴰ x (p .numbers .tasks) → heldFor l x ≤ numberLimit
   held-most l a b x m = omega (arith, task-fine x m .uses-most l a b, cost-most x m)
 
-  holding-most : (l r w : ℕ) → 1 ≤ l → l ≤ lockCount p → 1 ≤ r → w ≤ numberLimit → greatestHeld l (tasksIn p) + demandIn (higher r (tasksIn p)) w ≤ greatestNeed numberLimit
+  holding-most : (l r w : ℕ) → 1 ≤ l → l ≤ p .numbers .locks → 1 ≤ r → w ≤ numberLimit → greatestHeld l (p .numbers .tasks) + demandIn (higher r (p .numbers .tasks)) w ≤ greatestNeed numberLimit
   unfolding greatestHeld
   holding-most l r w a b c h =
-      let g = greatest-le (heldFor l) numberLimit (tasksIn p) (held-most l a b) in
-      let e = tasks-most (drop r (tasksIn p)) (λ x m. drop-member r (tasksIn p) m) w h in
-      omega (arith, g, e, length-drop r (tasksIn p), few)
+      let g = greatest-le (heldFor l) numberLimit (p .numbers .tasks) (held-most l a b) in
+      let e = tasks-most (drop r (p .numbers .tasks)) (λ x m. drop-member r (p .numbers .tasks) m) w h in
+      omega (arith, g, e, length-drop r (p .numbers .tasks), few)
 
   -- the tasks before one, the one, and those behind it
-  module _ (σ : Setting) (lower : List Task) (task : Task) (above : List Task) (e : lower ++ (task ∷ above) ≡ tasksIn p) where
-    of : (x : Task) → List·Memᴰ x (lower ++ (task ∷ above)) → List·Memᴰ x (tasksIn p)
+  module _ (σ : Setting) (lower : List Task) (task : Task) (above : List Task) (e : lower ++ (task ∷ above) ≡ p .numbers .tasks) where
+    of : (x : Task) → List·Memᴰ x (lower ++ (task ∷ above)) → List·Memᴰ x (p .numbers .tasks)
     of x m = subst (List·Memᴰ x) e m
 
-    blocking-most : blockingOf (lockCount p) σ lower ≤ length lower * numberLimit
-    blocking-most = ⊎-elim (λ z. omega (arith, z)) (λ r. omega (arith, r .3, some lower (r .0) (r .2 .below), held-most (r .1) (r .2 .from) (r .2 .to) (r .0) (of (r .0) (Memᴰ·append-left (task ∷ above) (r .2 .below))))) (local-test .blocking (lockCount p) σ lower .one)
+    blocking-most : blockingOf (p .numbers .locks) σ lower ≤ length lower * numberLimit
+    blocking-most = ⊎-elim (λ z. omega (arith, z)) (λ r. omega (arith, r .3, some lower (r .0) (r .2 .below), held-most (r .1) (r .2 .from) (r .2 .to) (r .0) (of (r .0) (Memᴰ·append-left (task ∷ above) (r .2 .below))))) (local-test .blocking (p .numbers .locks) σ lower .one)
       where
         some : (xs : List Task) (x : Task) → List·Memᴰ x xs → 1 ≤ length xs
         some (y ∷ ys) x m = omega arith
 
-    need-most : (t : ℕ) → t ≤ numberLimit → task .cost + demandIn above t + blockingOf (lockCount p) σ lower ≤ greatestNeed numberLimit
+    need-most : (t : ℕ) → t ≤ numberLimit → task .cost + demandIn above t + blockingOf (p .numbers .locks) σ lower ≤ greatestNeed numberLimit
     need-most t h =
         let c = cost-most task (of task (Memᴰ·append-right lower (List·Memᴰ·head refl))) in
         let d = tasks-most above (λ x m. of x (Memᴰ·append-right lower (List·Memᴰ·tail m))) t h in
@@ -149,14 +145,14 @@ module _ (rows : List Row) (w : Weighable rows) where
 
 -- the listing of a planned file
 listing-short : (s : List ℕ) (room : ℕ) (text : List ℕ) → planOf s room ≡ answered text → length text ≤ listingLimit
-listing-short s room text e = go (readFile s) refl
+listing-short s room text e = go (partsOf s) refl
   where
-    read : (ps : List FilePart) → readFile s ≡ answered ps → (a : Answer (List ℕ)) → a ≡ answered text → Demanded ps room a → length text ≤ listingLimit
+    read : (ps : List PlanPart) → partsOf s ≡ answered ps → (a : Answer (List ℕ)) → a ≡ answered text → Demanded ps room a → length text ≤ listingLimit
     read ps f a d (none-passes n) = absurd (answered-not-refused (sym d))
-    read ps f a d (fits q l) = omega (arith, ap length (answer-same-value d), printed-most (read-fine s ps f) q (read-few s ps f))
+    read ps f a d (fits q l) = omega (arith, ap length (answer-same-value d), printed-most (parts-fine s ps f) q (parts-few s ps f))
     read ps f a d (too-long q l) = absurd (answered-not-refused (sym d))
 
-    go : (a : Answer (List FilePart)) → readFile s ≡ a → length text ≤ listingLimit
+    go : (a : Answer (List PlanPart)) → partsOf s ≡ a → length text ≤ listingLimit
     go (answered ps) f = read ps f (planOf s room) e (plan-demanded s room ps f)
     go (refused r) f = absurd (answered-not-refused (sym e ∙ plan-unread s r f room))
 

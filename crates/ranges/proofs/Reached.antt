@@ -2,16 +2,16 @@
 -- Assumes nothing.
 use Prim.Native.Nat.{ℕ, _+_, _-_, _*_}
 use native.Mathlib.Omega.{arith}
-use mathlib.Core.Path.{_≡_, refl}
+use mathlib.Core.Path.{_≡_, refl, ap}
 use mathlib.Core.List.{List, [], _∷_, _++_, map, List·Memᴰ, List·Memᴰ·head, List·Memᴰ·tail, Memᴰ·eq-of-replicate}
 use lib.ListN.{replicate}
 use Rattle.least.specs.Round.{ceilDiv}
 use Rattle.least.specs.Lists.{sum, greatest, countFrom, isEmpty, nthOr, every, some, joined, lastOr, onLast}
-use Rattle.text.specs.Bytes.{bytes, same, among, distinctAfter, intoLine, linesOf, intoField, fieldsOf}
-use Rattle.text.specs.Decimal.{isDigit, valueAfter}
 use Rattle.refusal.specs.Limits.{numberLimit}
 use Rattle.refusal.specs.Questions.{firstNo, whenDone}
 use Rattle.refusal.specs.Questions.Answer.{answered}
+use Rattle.text.specs.Bytes.{bytes, same, among, distinctAfter, intoLine, linesOf, intoField, fieldsOf}
+use Rattle.text.specs.Decimal.{isDigit, valueAfter}
 use Rattle.supply.specs.Supply.{roundOf}
 use Rattle.task_set.specs.declared.Task.{Task}
 use Rattle.task_set.specs.Tasks.{demandIn}
@@ -22,9 +22,9 @@ use Rattle.scan.specs.Line.{isAllowed, lineIsGood}
 use Rattle.fields.specs.Fields.{isNameByte, isName, leadingZero, isNumber}
 use Rattle.records.specs.Records.{recordOf}
 use Rattle.plan_file.specs.Above.{FileTask, FilePart, lockMentions, lockNames, partsAfter}
-use Rattle.plan_file.specs.Reading.{isPart, isEnd, allowedHere, partQuestions, taskQuestions, recordQuestions, questionsAt, readLines, readFile}
-use Rattle.plan_file.specs.Numbers.{taskIn, tasksIn}
-use Rattle.plan_file.proofs.Reading.{read-answered-iff}
+use Rattle.plan_file.specs.Reading.{isPart, isEnd, allowedHere, partQuestions, taskQuestions, recordQuestions, questionsAt, readLines, readFrom, readFile}
+use Rattle.plan_file.specs.Numbers.{taskIn, tasksIn, PlanPart, planPart, numbered}
+use Rattle.plan_file.proofs.Reading.{parts-answered-iff}
 use Rattle.planner.specs.SystemTest.{L}
 use Rattle.planner.specs.Refusals.{PartOf}
 use Rattle.ranges.specs.Ranges.{Weighable, greatestNeed, greatestLoad}
@@ -42,7 +42,7 @@ unfoldable busy : FilePart
 busy = record { name = bytes "p"; period = 1000000; tasks = named 1000000 97 ∷ map (named 999999) (countFrom 98 15) }
 
 file-reads : readFile file ≡ answered (busy ∷ [])
-unfolding file busy bytes joined countFrom readFile readLines linesOf intoLine fieldsOf intoField questionsAt recordQuestions partQuestions taskQuestions allowedHere isPart isEnd recordOf lineIsGood isAllowed isName isNameByte isNumber leadingZero isDigit valueAfter every some among same isEmpty lastOr onLast partsAfter firstNo whenDone
+unfolding file busy bytes joined countFrom readFrom readLines linesOf intoLine fieldsOf intoField questionsAt recordQuestions partQuestions taskQuestions allowedHere isPart isEnd recordOf lineIsGood isAllowed isName isNameByte isNumber leadingZero isDigit valueAfter every some among same isEmpty lastOr onLast partsAfter firstNo whenDone
 file-reads = refl
 
 abbrev alike : ℕ → Task
@@ -56,12 +56,12 @@ busy-need : 1000000 + demandIn (replicate 15 (alike 999999)) numberLimit ≡ gre
 unfolding demandIn sum ceilDiv
 busy-need = refl
 
-busy-part : PartOf file 1 busy
-unfolding nthOr
-busy-part = record { parts = busy ∷ []; readable = read-answered-iff file (busy ∷ []) .0 file-reads; from = omega arith; to = omega arith; is = refl }
+busy-part : PartOf file 1 (planPart busy)
+unfolding numbered nthOr
+busy-part = record { parts = planPart busy ∷ []; readable = parts-answered-iff file (planPart busy ∷ []) .0 (ap numbered file-reads); from = omega arith; to = omega arith; is = refl }
 
-pub need-reached : (s : List ℕ) × (p : FilePart) × PartOf s 1 p × (task : Task) × (above : List Task) × (task ∷ above ≡ tasksIn p) × (task .cost + demandIn above numberLimit ≡ greatestNeed numberLimit)
-need-reached = (file, busy, busy-part, alike 1000000, replicate 15 (alike 999999), busy-tasks, busy-need)
+pub need-reached : (s : List ℕ) × (p : PlanPart) × PartOf s 1 p × (task : Task) × (above : List Task) × (task ∷ above ≡ p .numbers .tasks) × (task .cost + demandIn above numberLimit ≡ greatestNeed numberLimit)
+need-reached = (file, planPart busy, busy-part, alike 1000000, replicate 15 (alike 999999), busy-tasks, busy-need)
 
 pub supply-reached : (roundOf (numberLimit - 1) (numberLimit - 1) numberLimit + 1) * (numberLimit - 1) ≡ 3 * (numberLimit - 1)
 unfolding roundOf ceilDiv

@@ -18,12 +18,12 @@ use lib.Dec.{ltb}
 use lib.ListN.{length}
 use Rattle.least.specs.declared.Frac.{Frac}
 use Rattle.least.specs.Lists.{every}
-use Rattle.text.specs.Bytes.{Line}
-use Rattle.text.specs.Decimal.{isDigit, valueOf, digitsOf}
 use Rattle.refusal.specs.declared.Refusal.the-variants.{BadNumber}
 use Rattle.refusal.specs.Number.{refusalNumber}
 use Rattle.refusal.specs.Questions.{Question, ask}
 use Rattle.refusal.specs.Questions.Answer.{answered}
+use Rattle.text.specs.Bytes.{Line}
+use Rattle.text.specs.Decimal.{isDigit, valueOf, digitsOf}
 use Rattle.supply.specs.Supply.{roundOf}
 use Rattle.task_set.specs.declared.Task.{Task}
 use Rattle.task_set.specs.Tasks.{higher, demandIn, greatestHeld}
@@ -34,9 +34,9 @@ use Rattle.load.specs.Weigh.{RowFits}
 use Rattle.fields.specs.Fields.{leadingZero}
 use Rattle.records.specs.Records.{Record, recordIn}
 use Rattle.records.specs.Records.Record.{part, task, lock, end, noRecord}
-use Rattle.plan_file.specs.Above.{FilePart, Above}
+use Rattle.plan_file.specs.Above.{Above}
 use Rattle.plan_file.specs.Reading.{questionsAt}
-use Rattle.plan_file.specs.Numbers.{lockCount, tasksIn}
+use Rattle.plan_file.specs.Numbers.{PlanPart}
 use Rattle.answers.specs.Answers.{planOf}
 use Rattle.planner.specs.SystemTest.{L}
 use Rattle.planner.specs.Weighing.{CountFits}
@@ -97,12 +97,12 @@ greatestLoad limit = 2 * limit + 15 * (limit * (limit + 1))
 
 pub record GreatestValues (limit : ℕ) : Type 0 where
   -- what is asked for while a lock is held: its longest use, and up to fifteen tasks above its ceiling
-  pub holding : (s : List ℕ) (k : ℕ) (p : FilePart) → PartOf s k p → (l r w : ℕ) → 1 ≤ l → l ≤ lockCount p → 1 ≤ r → w ≤ limit
-      → greatestHeld l (tasksIn p) + demandIn (higher r (tasksIn p)) w ≤ greatestNeed limit
+  pub holding : (s : List ℕ) (k : ℕ) (p : PlanPart) → PartOf s k p → (l r w : ℕ) → 1 ≤ l → l ≤ p .numbers .locks → 1 ≤ r → w ≤ limit
+      → greatestHeld l (p .numbers .tasks) + demandIn (higher r (p .numbers .tasks)) w ≤ greatestNeed limit
   -- what a task needs: its C, the tasks above it, and its blocking; and a file with a task that needs it
-  pub need : (s : List ℕ) (k : ℕ) (p : FilePart) → PartOf s k p → (σ : Setting) (lower : List Task) (task : Task) (higher : List Task)
-      → lower ++ (task ∷ higher) ≡ tasksIn p → (t : ℕ) → t ≤ limit → task .cost + demandIn higher t + blockingOf (lockCount p) σ lower ≤ greatestNeed limit
-  pub need-reached : (s : List ℕ) × (p : FilePart) × PartOf s 1 p × (task : Task) × (higher : List Task) × (task ∷ higher ≡ tasksIn p) × (task .cost + demandIn higher limit ≡ greatestNeed limit)
+  pub need : (s : List ℕ) (k : ℕ) (p : PlanPart) → PartOf s k p → (σ : Setting) (lower : List Task) (task : Task) (higher : List Task)
+      → lower ++ (task ∷ higher) ≡ p .numbers .tasks → (t : ℕ) → t ≤ limit → task .cost + demandIn higher t + blockingOf (p .numbers .locks) σ lower ≤ greatestNeed limit
+  pub need-reached : (s : List ℕ) × (p : PlanPart) × PartOf s 1 p × (task : Task) × (higher : List Task) × (task ∷ higher ≡ p .numbers .tasks) × (task .cost + demandIn higher limit ≡ greatestNeed limit)
   -- the supply's (k+1)P
   pub supply : (P Q t : ℕ) → SupplyFits P Q t → (roundOf P Q t + 1) * P ≤ 3 * (limit - 1)
   pub supply-reached : (roundOf (limit - 1) (limit - 1) limit + 1) * (limit - 1) ≡ 3 * (limit - 1)

@@ -12,10 +12,10 @@ use Rattle.least.proofs.Pad.{set-pad, set-pad-within, take-pad}
 use Rattle.least.proofs.Last.{last-split, on-last-split, length-drop-last, drop-last-member}
 use Rattle.text.specs.Bytes.{mention}
 use Rattle.task_set.specs.declared.Task.{Task}
-use Rattle.task_set.specs.Tasks.{withLocks, tasksOf}
+use Rattle.task_set.specs.Code.Tasks.{withLocks, tasksOf}
 use Rattle.plan_file.specs.Above.{FileLock, FileTask, FilePart, noTask, lockNames, withLock, withTasks}
 use Rattle.plan_file.specs.Numbers.{taskIn, tasksIn}
-use Rattle.plan_file.specs.Entries.{noTaskRead}
+use Rattle.plan_file.specs.Code.Entries.{noTaskRead}
 use Rattle.plan_file.proofs.SeenLocks.{lock-unmentioned, lock-names-task, lock-names-lock}
 use Rattle.plan_file.proofs.SeenTasks.{heldBy, taskWith, padded, padded-new, padded-mention}
 use Rattle.plan_file.proofs.SeenPart.{lastTask}

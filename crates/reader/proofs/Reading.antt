@@ -7,7 +7,6 @@ use mathlib.Core.Bool.{true, false, cond}
 use mathlib.Core.List.{List, [], map}
 use lib.ListN.{length, take, drop, drop-of-length-le}
 use Rattle.least.specs.Lists.{pad}
-use Rattle.text.specs.Bytes.{Line, linesOf}
 use Rattle.refusal.specs.declared.Refusal.{Refusal}
 use Rattle.refusal.specs.declared.Refusal.the-variants.{FileTooLong, BadLine, Misplaced}
 use Rattle.refusal.specs.declared.Outcome.the-variants.{Done, Refused}
@@ -16,42 +15,44 @@ use Rattle.refusal.specs.Questions.{ask, firstNo, Answer}
 use Rattle.refusal.specs.Questions.Answer.{answered, refused}
 use Rattle.refusal.proofs.Questions.{yes-next, no-answers}
 use Rattle.stretch.specs.declared.Span.{Span}
+use Rattle.text.specs.Bytes.{Line, linesOf}
+use Rattle.task_set.specs.declared.Task.{Task}
 use Rattle.scan.specs.Line.{lineIsGood}
 use Rattle.records.specs.declared.Cursor.{Cursor}
 use Rattle.records.specs.declared.Shape.{Shape}
 use Rattle.records.specs.Records.{Record, recordIn}
-use Rattle.records.specs.Cursor.{recordAs, RecordIs, BrokenIs}
-use Rattle.task_set.specs.declared.Task.{Task}
+use Rattle.records.specs.Code.Cursor.{recordAs, RecordIs, BrokenIs}
 use Rattle.plan_file.specs.declared.Seen.{Seen}
 use Rattle.plan_file.specs.declared.Entry.the-variants.{Refused as RefusedEntry}
 use Rattle.plan_file.specs.Above.{FilePart, Above, nothingAbove, after}
-use Rattle.plan_file.specs.Reading.{isEnd, recordQuestions, questionsAt, readLines, readFile}
-use Rattle.plan_file.specs.Entries.{FineSeen, noSpan, noTaskRead, noneSeen, entryOf}
-use Rattle.plan_file.specs.Stretches.{nameSpans}
+use Rattle.plan_file.specs.Reading.{isEnd, recordQuestions, questionsAt, readLines, readFrom}
+use Rattle.plan_file.specs.Numbers.{numbered}
+use Rattle.plan_file.specs.Stretches.{noSpan, nameSpans}
+use Rattle.plan_file.specs.Code.Entries.{FineSeen, noTaskRead, noneSeen, entryOf}
 use Rattle.plan_file.proofs.Reading.{read-next, read-stop, read-too-long, read-lines}
 use Rattle.plan_file.proofs.SeenAbove.{seen-is-fine, part-count}
 use Rattle.plan_file.proofs.SeenEntered.{AllDone, refused-entered}
 use Rattle.reader.specs.declared.PartRead.{PartRead}
-use Rattle.reader.specs.Reader.{numbered, partOf, answerOf, fileOf, noPartRead, refusedFile}
+use Rattle.reader.specs.Code.Reader.{partOf, answerOf, fileOf, noPartRead, refusedFile}
 use Rattle.reader.proofs.Stands.{Stands, stands-start}
 use Rattle.reader.proofs.Spans.{Spanned, spanned-start, spanned-all}
 
-pub record Reading (s : List ℕ) (c : Cursor) (seen : Seen) (opened : ℕ) (name : Span) (period : ℕ) (tasks : List Task) (all : List PartRead) : Type 0 where
+pub record Reading (n : ℕ) (s : List ℕ) (c : Cursor) (seen : Seen) (opened : ℕ) (name : Span) (period : ℕ) (tasks : List Task) (all : List PartRead) : Type 0 where
   pub above : Above
-  pub reads : readFile s ≡ readLines (c .line) above (linesOf (drop (c .at) s))
-  pub lines-few : c .line ≤ c .at + 1
+  pub reads : readFrom n s ≡ readLines (c .line) above (linesOf (drop (c .at) s))
+  pub lines-few : c .line ≤ c .at + n
   pub within : c .at ≤ length s
   pub small : length s ≤ fileLimit
   pub stands : Stands s seen opened name period tasks all above
   pub spanned : Spanned s (c .at) (seen .parts .count) opened name all (seen .ended)
 
-pub reading-too-long : (s : List ℕ) → fileLimit < length s → refused FileTooLong ≡ numbered (readFile s)
+pub reading-too-long : (n : ℕ) (s : List ℕ) → fileLimit < length s → refused FileTooLong ≡ numbered (readFrom n s)
 unfolding numbered
-reading-too-long s h = ap numbered (sym (read-too-long s h))
+reading-too-long n s h = ap numbered (sym (read-too-long n s h))
 
-pub reading-start : (s : List ℕ) → length s ≤ fileLimit → Reading s (record { at = 0; line = 1 }) noneSeen 0 noSpan 0 (pad 16 noTaskRead []) (pad 16 noPartRead [])
-reading-start s h =
-    record { above = nothingAbove; reads = read-lines s h; lines-few = omega arith; within = omega arith; small = h; stands = stands-start s; spanned = spanned-start s (pad 16 noPartRead []) }
+pub reading-start : (n : ℕ) (s : List ℕ) → length s ≤ fileLimit → Reading n s (record { at = 0; line = n }) noneSeen 0 noSpan 0 (pad 16 noTaskRead []) (pad 16 noPartRead [])
+reading-start n s h =
+    record { above = nothingAbove; reads = read-lines n s h; lines-few = omega arith; within = omega arith; small = h; stands = stands-start s; spanned = spanned-start s (pad 16 noPartRead []) }
 
 -- a good line has the questions of its record
 good-line : (n : ℕ) (a : Above) (l : Line) → lineIsGood l ≡ true → firstNo (questionsAt n a l) ≡ firstNo (recordQuestions n a (recordIn l))
@@ -85,7 +86,7 @@ pub refused-file : (s : List ℕ) (x : Refusal) → fileOf s (refusedFile x) ≡
 unfolding fileOf refusedFile answerOf
 refused-file s x = refl
 
-module _ (s : List ℕ) (c : Cursor) (seen : Seen) (opened : ℕ) (name : Span) (period : ℕ) (tasks : List Task) (all : List PartRead) (reading : Reading s c seen opened name period tasks all) where
+module _ {n : ℕ} (s : List ℕ) (c : Cursor) (seen : Seen) (opened : ℕ) (name : Span) (period : ℕ) (tasks : List Task) (all : List PartRead) (reading : Reading n s c seen opened name period tasks all) where
   abbrev a : Above
   a = reading .above
 
@@ -93,18 +94,18 @@ module _ (s : List ℕ) (c : Cursor) (seen : Seen) (opened : ℕ) (name : Span) 
   reading-fine = seen-is-fine s seen a (reading .stands .seen-is)
 
   -- what the rest is, the file is
-  ends : (x : Answer (List FilePart)) → readLines (c .line) a (linesOf (drop (c .at) s)) ≡ x → numbered x ≡ numbered (readFile s)
+  ends : (x : Answer (List FilePart)) → readLines (c .line) a (linesOf (drop (c .at) s)) ≡ x → numbered x ≡ numbered (readFrom n s)
   ends x e = ap numbered (sym (reading .reads ∙ e))
 
-  ends-refused : (x : Refusal) → readLines (c .line) a (linesOf (drop (c .at) s)) ≡ refused x → refused x ≡ numbered (readFile s)
+  ends-refused : (x : Refusal) → readLines (c .line) a (linesOf (drop (c .at) s)) ≡ refused x → refused x ≡ numbered (readFrom n s)
   unfolding numbered
   ends-refused x e = ends (refused x) e
 
-  pub reading-refused : (r : Shape) (next : Cursor) → RecordIs s c r next → (x : Refusal) → entryOf s (c .line) seen r ≡ RefusedEntry x → refused x ≡ numbered (readFile s)
+  pub reading-refused : (r : Shape) (next : Cursor) → RecordIs s c r next → (x : Refusal) → entryOf s (c .line) seen r ≡ RefusedEntry x → refused x ≡ numbered (readFrom n s)
   reading-refused r next at x e =
       ends-refused x (record-refused s c r next at a x (refused-entered s seen a (reading .stands .seen-is) (c .line) r x e))
 
-  pub reading-broken : BrokenIs s c → refused (BadLine (c .line)) ≡ numbered (readFile s)
+  pub reading-broken : BrokenIs s c → refused (BadLine (c .line)) ≡ numbered (readFrom n s)
   reading-broken at =
       ends-refused (BadLine (c .line))
       (ap (readLines (c .line) a) (at .lines) ∙ read-stop (c .line) a (at .line) (at .behind) (BadLine (c .line)) (bad-line (c .line) a (at .line) (at .bad)))
@@ -114,12 +115,12 @@ module _ (s : List ℕ) (c : Cursor) (seen : Seen) (opened : ℕ) (name : Span) 
   unfolding readLines linesOf
   none-left h = rw (drop-of-length-le s h) refl
 
-  pub reading-over : length s ≤ c .at → seen .ended ≡ false → refused (Misplaced (c .line)) ≡ numbered (readFile s)
+  pub reading-over : length s ≤ c .at → seen .ended ≡ false → refused (Misplaced (c .line)) ≡ numbered (readFrom n s)
   reading-over h e =
       let not-end : isEnd (a .directly) ≡ false = sym (reading .stands .seen-is .ended) ∙ e in
       ends-refused (Misplaced (c .line)) (none-left h ∙ simp not-end)
 
-  pub reading-done : length s ≤ c .at → seen .ended ≡ true → fileOf s (record { outcome = Done; parts = all; count = seen .parts .count }) ≡ numbered (readFile s)
+  pub reading-done : length s ≤ c .at → seen .ended ≡ true → fileOf s (record { outcome = Done; parts = all; count = seen .parts .count }) ≡ numbered (readFrom n s)
   unfolding fileOf answerOf numbered
   reading-done h e =
       let at-end : isEnd (a .directly) ≡ true = sym (reading .stands .seen-is .ended) ∙ e in

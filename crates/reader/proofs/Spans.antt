@@ -16,9 +16,8 @@ use Rattle.records.specs.declared.Shape.{Shape}
 use Rattle.records.specs.declared.Shape.the-variants.{Part}
 use Rattle.records.specs.declared.Cursor.{Cursor}
 use Rattle.records.specs.Records.{Record}
-use Rattle.records.specs.Cursor.{recordAs, RecordIs}
-use Rattle.plan_file.specs.Entries.{noSpan}
-use Rattle.plan_file.specs.Stretches.{spanOn, spansFrom, nameSpans}
+use Rattle.records.specs.Code.Cursor.{recordAs, RecordIs}
+use Rattle.plan_file.specs.Stretches.{noSpan, spanOn, spansFrom, nameSpans}
 use Rattle.reader.specs.declared.PartRead.{PartRead}
 
 abbrev namesIn : List PartRead → List Span

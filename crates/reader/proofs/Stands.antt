@@ -11,24 +11,25 @@ use lib.Seq.{take-suc-set, take-set-le}
 use Rattle.least.specs.Lists.{pad, lastOr, onLast}
 use Rattle.least.proofs.Pad.{length-pad, getD-pad-fits}
 use Rattle.least.proofs.Last.{last-split, drop-last-snoc, drop-last-on-last, length-on-last}
-use Rattle.text.specs.Bytes.{among, mention}
-use Rattle.text.specs.Decimal.{valueOf}
 use Rattle.stretch.specs.declared.Span.{Span}
 use Rattle.stretch.specs.Stretch.{bytesOf}
-use Rattle.records.specs.Records.Record.{part, task, lock, end}
+use Rattle.text.specs.Bytes.{among, mention}
+use Rattle.text.specs.Decimal.{valueOf}
 use Rattle.task_set.specs.declared.Task.{Task}
-use Rattle.task_set.specs.Tasks.{tasksOf}
+use Rattle.task_set.specs.Code.Tasks.{tasksOf}
+use Rattle.records.specs.Records.Record.{part, task, lock, end}
 use Rattle.plan_file.specs.declared.Seen.{Seen}
 use Rattle.plan_file.specs.Above.{FileLock, FileTask, FilePart, Above, noPart, nothingAbove, thisPart, thisTask, lockNames, withLock, withTasks, partsAfter, after}
-use Rattle.plan_file.specs.Numbers.{tasksIn}
+use Rattle.plan_file.specs.Numbers.{PlanPart, tasksIn, planPart}
 use Rattle.plan_file.specs.Reading.{isEnd, locksOf}
-use Rattle.plan_file.specs.Entries.{noSpan, noTaskRead, noneSeen, namesOf, placeAmong, seenPart, seenTask, seenLock, seenEnd}
+use Rattle.plan_file.specs.Stretches.{noSpan}
+use Rattle.plan_file.specs.Code.Entries.{noTaskRead, noneSeen, namesOf, placeAmong, seenPart, seenTask, seenLock, seenEnd}
 use Rattle.plan_file.proofs.SeenNames.{fine-none}
 use Rattle.plan_file.proofs.SeenTasks.{taskWith}
 use Rattle.plan_file.proofs.SeenPart.{storedUse, task-count, lock-count, task-after-lock}
 use Rattle.plan_file.proofs.SeenAbove.{SeenIs, part-count, taskOf, lockOf, this-part-part, this-part-task, this-part-lock, seen-is-start, seen-is-part, seen-is-task, seen-is-lock, seen-is-end}
 use Rattle.reader.specs.declared.PartRead.{PartRead}
-use Rattle.reader.specs.Reader.{ReadPart, asRead, partOf, FineCounts, closedPart, noPartRead}
+use Rattle.reader.specs.Code.Reader.{partOf, FineCounts, closedPart, noPartRead}
 use Rattle.reader.proofs.Arrays.{set-each, arrayOf, array-task, array-lock, tasks-closed}
 
 -- the last part
@@ -42,9 +43,9 @@ pub record Stands (s : List ℕ) (seen : Seen) (opened : ℕ) (name : Span) (per
   pub last : Holds s name period tasks (thisPart a)
   pub open-is : opened ≡ length (a .parts) - 1
   pub room : length all ≡ 16
-  pub closed : map (partOf s) (take opened all) ≡ map asRead (dropLast (a .parts))
+  pub closed : map (partOf s) (take opened all) ≡ map planPart (dropLast (a .parts))
   pub counts : (k : ℕ) → FineCounts (getD all k noPartRead)
-  pub complete : isEnd (a .directly) ≡ true → map (partOf s) (take (length (a .parts)) all) ≡ map asRead (a .parts)
+  pub complete : isEnd (a .directly) ≡ true → map (partOf s) (take (length (a .parts)) all) ≡ map planPart (a .parts)
 
 none-counted : FineCounts noPartRead
 unfolding closedPart
@@ -84,10 +85,10 @@ module _ (s : List ℕ) (seen : Seen) (opened : ℕ) (name : Span) (period : ℕ
       ap (λ (ts : List Task). tasksOf (record { period = period; tasks = ts; count = seen .tasks .count; locks = seen .locks .count })) (stands .last .tasks-are)
       ∙ tasks-closed (thisPart a) period (seen .tasks .count) (seen .locks .count) tasks-count locks-count (stands .seen-is .part .fine-tasks .few) (stands .seen-is .part .few-locks)
 
-  last-read : partOf s lastRead ≡ asRead (thisPart a)
-  unfolding partOf closedPart asRead
+  last-read : partOf s lastRead ≡ planPart (thisPart a)
+  unfolding partOf closedPart
   last-read =
-      λ i. record { name = stands .last .called i; period = stands .last .period-is i; locks = stands .seen-is .part .lock-names i; tasks = tasks-read i }
+      λ i. record { name = stands .last .called i; locks = stands .seen-is .part .lock-names i; numbers = record { period = stands .last .period-is i; tasks = tasks-read i; locks = sym locks-count i } }
 
   last-counted : FineCounts lastRead
   unfolding closedPart
@@ -99,19 +100,19 @@ module _ (s : List ℕ) (seen : Seen) (opened : ℕ) (name : Span) (period : ℕ
   all-counted : (k : ℕ) → FineCounts (getD (set all opened lastRead) k noPartRead)
   all-counted = set-each FineCounts noPartRead all opened lastRead (stands .counts) last-counted
 
-  some-read : 1 ≤ length (a .parts) → map (partOf s) (take (length (a .parts)) (set all opened lastRead)) ≡ map asRead (a .parts)
+  some-read : 1 ≤ length (a .parts) → map (partOf s) (take (length (a .parts)) (set all opened lastRead)) ≡ map planPart (a .parts)
   some-read h =
       let n : length (a .parts) ≡ suc opened = omega (arith, stands .open-is) in
       rw (n, take-suc-set all opened lastRead (omega (arith, open-small, stands .room)), map-append (partOf s))
-      (ap₂ (λ (xs : List ReadPart) (x : ReadPart). xs ++ (x ∷ [])) (stands .closed) last-read
-      ∙ sym (map-append asRead (dropLast (a .parts)) (thisPart a ∷ []))
-      ∙ ap (map asRead) (sym (last-split noPart (a .parts) h)))
+      (ap₂ (λ (xs : List PlanPart) (x : PlanPart). xs ++ (x ∷ [])) (stands .closed) last-read
+      ∙ sym (map-append planPart (dropLast (a .parts)) (thisPart a ∷ []))
+      ∙ ap (map planPart) (sym (last-split noPart (a .parts) h)))
 
   -- with the last part stored, all parts are there
-  all-read : map (partOf s) (take (length (a .parts)) (set all opened lastRead)) ≡ map asRead (a .parts)
+  all-read : map (partOf s) (take (length (a .parts)) (set all opened lastRead)) ≡ map planPart (a .parts)
   all-read = go (a .parts) refl
     where
-      go : (ps : List FilePart) → a .parts ≡ ps → map (partOf s) (take (length (a .parts)) (set all opened lastRead)) ≡ map asRead (a .parts)
+      go : (ps : List FilePart) → a .parts ≡ ps → map (partOf s) (take (length (a .parts)) (set all opened lastRead)) ≡ map planPart (a .parts)
       go [] h = rw h
       go (p ∷ ps) h = some-read (rw h (omega arith))
 

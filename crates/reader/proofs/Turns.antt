@@ -9,16 +9,16 @@ use lib.ListN.{length, set}
 use Rattle.least.specs.Lists.{pad}
 use Rattle.stretch.specs.declared.Span.{Span}
 use Rattle.stretch.specs.Stretch.{bytesOf}
+use Rattle.task_set.specs.declared.Task.{Task}
 use Rattle.records.specs.declared.Cursor.{Cursor}
 use Rattle.records.specs.declared.Shape.{Shape}
 use Rattle.records.specs.Records.{Record}
 use Rattle.records.specs.Records.Record.{part, task, lock, end}
-use Rattle.records.specs.Cursor.{recordAs, RecordIs}
-use Rattle.task_set.specs.declared.Task.{Task}
+use Rattle.records.specs.Code.Cursor.{recordAs, RecordIs}
 use Rattle.plan_file.specs.declared.Seen.{Seen}
 use Rattle.plan_file.specs.declared.Entry.the-variants.{Part as PartEntry, Task as TaskEntry, Lock as LockEntry, End as EndEntry}
 use Rattle.plan_file.specs.Above.{Above, thisPart, lockNames, after}
-use Rattle.plan_file.specs.Entries.{noTaskRead, placeAmong, withName, entryOf, seenPart, seenTask, seenLock, seenEnd}
+use Rattle.plan_file.specs.Code.Entries.{noTaskRead, placeAmong, withName, entryOf, seenPart, seenTask, seenLock, seenEnd}
 use Rattle.plan_file.specs.Stretches.{spanOn}
 use Rattle.plan_file.proofs.SeenNames.{place-mention}
 use Rattle.plan_file.proofs.SeenTasks.{taskWith}
@@ -26,12 +26,12 @@ use Rattle.plan_file.proofs.SeenPart.{storedUse, task-count}
 use Rattle.plan_file.proofs.SeenAbove.{taskOf, part-count}
 use Rattle.plan_file.proofs.SeenEntered.{AllDone, PartEntered, TaskEntered, LockEntered, part-entered, task-entered, lock-entered, end-entered}
 use Rattle.reader.specs.declared.PartRead.{PartRead}
-use Rattle.reader.specs.Reader.{closedPart, heldAt}
+use Rattle.reader.specs.Code.Reader.{closedPart, heldAt}
 use Rattle.reader.proofs.Stands.{Stands, open-small, stands-part, stands-task, stands-lock, stands-end}
 use Rattle.reader.proofs.Spans.{Spanned, spanned-same, spanned-end, spanned-part}
 use Rattle.reader.proofs.Reading.{Reading, record-done}
 
-module _ (s : List ℕ) (c : Cursor) (seen : Seen) (opened : ℕ) (name : Span) (period : ℕ) (tasks : List Task) (all : List PartRead) (reading : Reading s c seen opened name period tasks all) (r : Shape) (next : Cursor) (at : RecordIs s c r next) where
+module _ {n : ℕ} (s : List ℕ) (c : Cursor) (seen : Seen) (opened : ℕ) (name : Span) (period : ℕ) (tasks : List Task) (all : List PartRead) (reading : Reading n s c seen opened name period tasks all) (r : Shape) (next : Cursor) (at : RecordIs s c r next) where
   abbrev a : Above
   a = reading .above
 
@@ -39,7 +39,7 @@ module _ (s : List ℕ) (c : Cursor) (seen : Seen) (opened : ℕ) (name : Span) 
   closed = closedPart name period tasks (seen .tasks .count) (seen .locks)
 
   -- behind the record x
-  goes-on : (x : Record) → recordAs s r ≡ x → AllDone s (c .line) a r → {seen′ : Seen} {opened′ : ℕ} {name′ : Span} {period′ : ℕ} {tasks′ : List Task} {all′ : List PartRead} → Stands s seen′ opened′ name′ period′ tasks′ all′ (after a x) → Spanned s (next .at) (seen′ .parts .count) opened′ name′ all′ (seen′ .ended) → Reading s next seen′ opened′ name′ period′ tasks′ all′
+  goes-on : (x : Record) → recordAs s r ≡ x → AllDone s (c .line) a r → {seen′ : Seen} {opened′ : ℕ} {name′ : Span} {period′ : ℕ} {tasks′ : List Task} {all′ : List PartRead} → Stands s seen′ opened′ name′ period′ tasks′ all′ (after a x) → Spanned s (next .at) (seen′ .parts .count) opened′ name′ all′ (seen′ .ended) → Reading n s next seen′ opened′ name′ period′ tasks′ all′
   goes-on x e d stands spanned = record {
     above = after a x;
     reads = reading .reads ∙ record-done s c r next at a x e d;
@@ -74,13 +74,13 @@ module _ (s : List ℕ) (c : Cursor) (seen : Seen) (opened : ℕ) (name : Span) 
     pub name-room : seen .parts .count < 16
     name-room = entered-part .room
 
-    pub reading-part : Reading s next (seenPart seen nm) (seen .parts .count) nm v (pad 16 noTaskRead []) (set all opened closed)
+    pub reading-part : Reading n s next (seenPart seen nm) (seen .parts .count) nm v (pad 16 noTaskRead []) (set all opened closed)
     unfolding seenPart withName closedPart
     reading-part =
         let e = entered-part in
         let to = stands-part s seen opened name period tasks all a (reading .stands) nm (bytesOf s (e .period)) (e .room) in
         let names = spanned-part s c r next at (seen .parts .count) opened name all (seen .ended) (reading .spanned) closed open-is open-room refl nm (e .period) (e .shape) in
-        subst (λ (x : ℕ). Reading s next (seenPart seen nm) (seen .parts .count) nm x (pad 16 noTaskRead []) (set all opened closed)) (sym (e .value))
+        subst (λ (x : ℕ). Reading n s next (seenPart seen nm) (seen .parts .count) nm x (pad 16 noTaskRead []) (set all opened closed)) (sym (e .value))
         (goes-on (part (bytesOf s nm) (bytesOf s (e .period))) (e .is) (e .done) to names)
 
   module _ (nm : Span) (u v w : ℕ) (is : entryOf s (c .line) seen r ≡ TaskEntry nm u v w) where
@@ -93,13 +93,13 @@ module _ (s : List ℕ) (c : Cursor) (seen : Seen) (opened : ℕ) (name : Span) 
     abbrev taken : Task
     taken = record { separation = u; cost = v; deadline = w; uses = pad 8 0 [] }
 
-    pub reading-task : Reading s next (seenTask seen nm taken) opened name period (set tasks (seen .tasks .count) taken) all
+    pub reading-task : Reading n s next (seenTask seen nm taken) opened name period (set tasks (seen .tasks .count) taken) all
     unfolding seenTask spanOn
     reading-task =
         let e = entered-task in
         let to = stands-task s seen opened name period tasks all a (reading .stands) nm (e .T) (e .C) (e .D) (e .part-above) (e .room) in
         let same : taken ≡ taskWith (taskOf (bytesOf s nm) (e .T) (e .C) (e .D)) (pad 8 0 []) = λ i. record { separation = e .separation i; cost = e .cost i; deadline = e .deadline i; uses = pad 8 0 [] } in
-        subst (λ (t : Task). Reading s next (seenTask seen nm t) opened name period (set tasks (seen .tasks .count) t) all) (sym same)
+        subst (λ (t : Task). Reading n s next (seenTask seen nm t) opened name period (set tasks (seen .tasks .count) t) all) (sym same)
         (goes-on (task (bytesOf s nm) (e .T) (e .C) (e .D)) (e .is) (e .done) to (same-names _ (e .is) refl))
 
   module _ (nm : Span) (j v : ℕ) (is : entryOf s (c .line) seen r ≡ LockEntry nm j v) where
@@ -114,15 +114,15 @@ module _ (s : List ℕ) (c : Cursor) (seen : Seen) (opened : ℕ) (name : Span) 
         let k : j ≡ placeAmong (bytesOf s nm) (lockNames (thisPart a)) = e .place ∙ ap (placeAmong (bytesOf s nm)) (is-part .lock-names) in
         (omega (arith, place-mention (bytesOf s nm) (lockNames (thisPart a)) 8 (e .few)), omega (arith, e .task-above), is-part .fine-tasks .few)
 
-    pub reading-lock : Reading s next (seenLock seen nm j (heldAt (seen .last) j v)) opened name period (set tasks (seen .tasks .count - 1) (heldAt (seen .last) j v)) all
+    pub reading-lock : Reading n s next (seenLock seen nm j (heldAt (seen .last) j v)) opened name period (set tasks (seen .tasks .count - 1) (heldAt (seen .last) j v)) all
     unfolding heldAt seenLock spanOn
     reading-lock =
         let e = entered-lock in
         let to = stands-lock s seen opened name period tasks all a (reading .stands) nm (e .c) (e .task-above) (e .new) (e .few) (e .part-above) (e .positive) in
-        subst₂ (λ (k x : ℕ). Reading s next (seenLock seen nm k (storedUse (seen .last) k x)) opened name period (set tasks (seen .tasks .count - 1) (storedUse (seen .last) k x)) all) (sym (e .place)) (sym (e .value))
+        subst₂ (λ (k x : ℕ). Reading n s next (seenLock seen nm k (storedUse (seen .last) k x)) opened name period (set tasks (seen .tasks .count - 1) (storedUse (seen .last) k x)) all) (sym (e .place)) (sym (e .value))
         (goes-on (lock (bytesOf s nm) (e .c)) (e .is) (e .done) to (same-names _ (e .is) refl))
 
-  pub reading-end : entryOf s (c .line) seen r ≡ EndEntry → Reading s next (seenEnd seen) opened name period tasks (set all opened closed)
+  pub reading-end : entryOf s (c .line) seen r ≡ EndEntry → Reading n s next (seenEnd seen) opened name period tasks (set all opened closed)
   unfolding seenEnd spanOn closedPart
   reading-end is =
       let e = end-entered s seen a (reading .stands .seen-is) (c .line) r is in

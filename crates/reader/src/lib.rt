@@ -3,14 +3,16 @@ use plan_file::Entry;
 use plan_file::Names;
 use records::Cursor;
 use records::Next;
+use refusal::FILE_LIMIT;
 use refusal::Outcome;
 use refusal::Refusal;
 use stretch::Span;
 use task_set::Part;
 use task_set::Task;
 ghost use mathlib.Core.Path.{_≡_};
-ghost use Prim.Native.Nat.{_<_};
-ghost use Rattle.reader.specs.Reader.{noPartRead, closedPart, refusedFile, heldAt, ReadIs};
+ghost use Prim.Native.Nat.{_<_, _^_};
+ghost use Rattle.refusal.specs.Limits.{lockLimit};
+ghost use Rattle.reader.specs.Code.Reader.{noPartRead, closedPart, refusedFile, heldAt, ReadFromIs};
 
 // A part that was read: its name and the names of its locks as stretches of the file, and its numbers.
 pub struct PartRead {
@@ -25,8 +27,6 @@ pub struct PlanFile {
     pub parts: [PartRead; 16],
     pub count: usize,
 }
-
-const FILE_LIMIT: usize = 32768;
 
 // A part with all that was read of it.
 fn closed_part(name: Span, period: u64, tasks: [Task; 16], count: usize, locks: Names) -> PartRead
@@ -65,7 +65,7 @@ fn refused_file(r: Refusal) -> PlanFile
 
 // A task that holds its part's lock at the place j for c ticks.
 fn held_at(task: Task, j: usize, c: u64) -> Task
-    requires { ⌜ j < 8 ⌝ }
+    requires { ⌜ j < lockLimit ⌝ }
     ensures { λ r. ⌜ r ≡ heldAt task j c ⌝ }
 {
     let mut t = task;
@@ -73,13 +73,15 @@ fn held_at(task: Task, j: usize, c: u64) -> Task
     t
 }
 
-pub fn read_file(s: &[u8]) -> PlanFile
-    ensures { λ r. ⌜ ReadIs (now (s .entry)) r ⌝ }
+// A file whose first line has this number.
+pub fn read_file(s: &[u8], first: u64) -> PlanFile
+    requires { ⌜ first < 2 ^ 62 ⌝ }
+    ensures { λ r. ⌜ ReadFromIs first (now (s .entry)) r ⌝ }
 {
     if FILE_LIMIT < s.len() {
         return refused_file(Refusal::FileTooLong);
     }
-    let mut c = Cursor::new();
+    let mut c = Cursor::new(first);
     let mut seen = plan_file::none_seen();
     let no_one = plan_file::no_task();
     let nothing = no_part();

@@ -16,8 +16,8 @@ use Rattle.least.proofs.Numbers.{numbers-pass, numbers-fail, numbers-each}
 use Rattle.text.specs.Bytes.{intoField, fieldsOf}
 use Rattle.stretch.specs.Stretch.{bytesOf}
 use Rattle.scan.specs.Scan.{isTab}
-use Rattle.scan.specs.Code.{bodyOf, tabsFrom}
-use Rattle.records.specs.Shapes.{upTo}
+use Rattle.scan.specs.Positions.{bodyOf, tabsFrom}
+use Rattle.records.specs.Code.Shapes.{upTo}
 
 unfoldable pub pieces : List ℕ → ℕ → List ℕ → ℕ → List (List ℕ)
 pieces s from [] end = bytesOf s (upTo from end) ∷ []

@@ -14,8 +14,8 @@ use Rattle.scan.specs.declared.Scanned.{Scanned}
 use Rattle.stretch.specs.Stretch.{bytesOf}
 use Rattle.records.specs.declared.Shape.{Shape}
 use Rattle.records.specs.declared.Shape.the-variants.{Part, Unknown}
-use Rattle.records.specs.Shapes.{upTo, endOf, firstField, field, wordOf, partShape, taskShape, lockShape, endShape, shapeOf}
-use Rattle.records.specs.Cursor.{nameSpan}
+use Rattle.records.specs.Code.Shapes.{upTo, endOf, firstField, field, wordOf, partShape, taskShape, lockShape, endShape, shapeOf}
+use Rattle.records.specs.Records.{nameSpan}
 use Rattle.records.proofs.Records.{by-word}
 
 module _ (s : List ℕ) (at : ℕ) (l : Scanned) (places : (j : ℕ) → getD (l .tabs .place) j 0 ≤ length s) where

@@ -10,13 +10,13 @@ use lib.ListN.{length, getD}
 use Rattle.stretch.specs.Stretch.{bytesOf}
 use Rattle.scan.specs.declared.Scanned.{Scanned}
 use Rattle.scan.specs.Line.{lineIsGood}
-use Rattle.scan.specs.Code.{firstFive, lineAt}
+use Rattle.scan.specs.Positions.{firstFive, lineAt}
 use Rattle.scan.proofs.Scan.{goodAt}
 use Rattle.scan.proofs.Lines.{theLine, theEnd, theTabs, scanned-good, lines-at, GoodLine, good-line}
 use Rattle.records.specs.declared.Shape.{Shape}
 use Rattle.records.specs.declared.Cursor.{Cursor}
-use Rattle.records.specs.Shapes.{firstField, wordOf, shapeOf}
-use Rattle.records.specs.Cursor.{recordAs, RecordIs, BrokenIs}
+use Rattle.records.specs.Code.Shapes.{firstField, wordOf, shapeOf}
+use Rattle.records.specs.Code.Cursor.{recordAs, RecordIs, BrokenIs}
 use Rattle.records.proofs.Records.{record-line}
 use Rattle.records.proofs.Names.{name-stands}
 

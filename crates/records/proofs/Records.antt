@@ -11,15 +11,15 @@ use Rattle.text.specs.Bytes.{bytes, same}
 use Rattle.text.proofs.Bytes.{same-true}
 use Rattle.stretch.specs.Stretch.{bytesOf}
 use Rattle.scan.specs.declared.Scanned.{Scanned}
-use Rattle.scan.specs.Code.{firstFive}
+use Rattle.scan.specs.Positions.{firstFive}
 use Rattle.scan.proofs.Scan.{goodAt}
 use Rattle.scan.proofs.Lines.{theLine, theEnd, theTabs}
 use Rattle.records.specs.declared.Word.{Word}
 use Rattle.records.specs.declared.Word.the-variants.{PartWord, TaskWord, LockWord, EndWord, NoWord}
 use Rattle.records.specs.Records.{recordOf, recordIn}
 use Rattle.records.specs.Records.Record.{noRecord}
-use Rattle.records.specs.Shapes.{upTo, endOf, firstField, field, wordOf, partShape, taskShape, lockShape, endShape, shapeOf}
-use Rattle.records.specs.Cursor.{recordAs}
+use Rattle.records.specs.Code.Shapes.{upTo, endOf, firstField, field, wordOf, partShape, taskShape, lockShape, endShape, shapeOf}
+use Rattle.records.specs.Code.Cursor.{recordAs}
 use Rattle.records.proofs.Fields.{pieces, line-pieces}
 
 -- a field that is none of the four words

@@ -1,3 +1,2 @@
 pub mod Records
-pub mod Shapes
-pub mod Cursor
+pub mod Code

@@ -3,8 +3,8 @@ use scan::Scanned;
 use stretch::Span;
 ghost use mathlib.Core.Path.{_≡_};
 ghost use Prim.Native.Nat.{_<_, _≤_, _^_};
-ghost use Rattle.records.specs.Shapes.{upTo, endOf, firstField, field, wordOf, partShape, taskShape, lockShape, endShape, shapeOf, TabsSmall};
-ghost use Rattle.records.specs.Cursor.{NextIs};
+ghost use Rattle.records.specs.Code.Shapes.{upTo, endOf, firstField, field, wordOf, partShape, taskShape, lockShape, endShape, shapeOf, TabsSmall};
+ghost use Rattle.records.specs.Code.Cursor.{NextIs};
 
 // A record, with its fields as stretches of the file.
 pub enum Shape {
@@ -179,11 +179,11 @@ fn shape_of(w: Word, l: Scanned) -> Shape
 }
 
 impl Cursor {
-    // The first line.
-    pub fn new() -> Self
-        ensures { λ r. ⌜ (r .at ≡ 0) × (r .line ≡ 1) ⌝ }
+    // The first line, which has this number.
+    pub fn new(line: u64) -> Self
+        ensures { λ r. ⌜ (r .at ≡ 0) × (r .line ≡ line) ⌝ }
     {
-        Cursor { at: 0, line: 1 }
+        Cursor { at: 0, line }
     }
 
     // What stands at the cursor, with the cursor behind it.

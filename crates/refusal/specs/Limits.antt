@@ -4,6 +4,8 @@
 --   partLimit, taskLimit, lockLimit == parts in a file, tasks in a part, different lock names in a part
 --   rowLimit    == rows to be weighed
 --   nameLimit   == bytes in a name
+--   keptLimit   == pairs in the kept list of a part
+-- And two that follow from the kept lists, about which no question asks.
 -- Assumes nothing.
 use Prim.Native.Nat.{ℕ}
 
@@ -27,3 +29,6 @@ rowLimit = 16
 
 abbrev pub nameLimit : ℕ
 nameLimit = 8
+
+abbrev pub keptLimit : ℕ
+keptLimit = 121

@@ -2,8 +2,10 @@
 --   refusalNumber r == the number of the question that has the answer no
 --   refusalPlace r  == its place: a line, a part or a row, counted from 1, or 0
 --   numberOf o, placeOf o == the same of an outcome
+--   isOfTheFile r   == the question is about the plan file by itself: its length and its lines
 -- Assumes nothing.
 use Prim.Native.Nat.{ℕ}
+use mathlib.Core.Bool.{Bool, true, false}
 use Rattle.refusal.specs.declared.Refusal.{Refusal}
 use Rattle.refusal.specs.declared.Refusal.the-variants.{FileTooLong, BadLine, BadRecord, Misplaced, BadName, KnownName, BadNumber, BadOrder, TooMany, NoBudget, NoChoice, BadHandSet, NoTime, NoRoom}
 use Rattle.refusal.specs.declared.Outcome.{Outcome}
@@ -48,3 +50,19 @@ numberOf (Refused r) = refusalNumber r
 abbrev pub placeOf : Outcome → ℕ
 placeOf Done = 0
 placeOf (Refused r) = refusalPlace r
+
+abbrev pub isOfTheFile : Refusal → Bool
+isOfTheFile FileTooLong = true
+isOfTheFile (BadLine line) = true
+isOfTheFile (BadRecord line) = true
+isOfTheFile (Misplaced line) = true
+isOfTheFile (BadName line) = true
+isOfTheFile (KnownName line) = true
+isOfTheFile (BadNumber line) = true
+isOfTheFile (BadOrder line) = true
+isOfTheFile (TooMany line) = true
+isOfTheFile (NoBudget part) = false
+isOfTheFile NoChoice = false
+isOfTheFile (BadHandSet place) = false
+isOfTheFile (NoTime row) = false
+isOfTheFile NoRoom = false

@@ -5,6 +5,27 @@ ghost use Rattle.refusal.specs.Number.{refusalNumber, refusalPlace, numb
 // The greatest number of a file, and of a period, a budget, a holding time or a time set by hand.
 pub const NUMBER_LIMIT: u64 = 1000000;
 
+// The greatest length of a file in bytes.
+pub const FILE_LIMIT: usize = 32768;
+
+// Parts in a file, tasks in a part, different lock names in a part.
+pub const PART_LIMIT: usize = 16;
+
+pub const TASK_LIMIT: usize = 16;
+
+pub const LOCK_LIMIT: usize = 8;
+
+// Rows to be weighed.
+pub const ROW_LIMIT: usize = 16;
+
+// Bytes in a name.
+pub const NAME_LIMIT: usize = 8;
+
+// Pairs in the kept list of a part, and places for those of all parts.
+pub const KEPT_LIMIT: usize = 121;
+
+pub const OFFER_PLACES: usize = PART_LIMIT * KEPT_LIMIT;
+
 // A refusal by its question, with the place where the paper gives one.
 pub enum Refusal {
     // 1. Is the file at most 32,768 bytes?

@@ -3,6 +3,7 @@
 // before.
 use libc::STDIN_FILENO;
 use libc::STDOUT_FILENO;
+use refusal::FILE_LIMIT;
 
 fn print_plan(file: &[u8], out: &mut [u8]) {
     let p = planner::plan(file, out);
@@ -42,7 +43,7 @@ fn print_readings() {
 }
 
 fn main() {
-    let mut file = [0u8; 32769];
+    let mut file = [0u8; FILE_LIMIT + 1];
     let n = io::read_full(STDIN_FILENO, &mut file);
     print_rooms(&file[..n]);
     print_readings();

@@ -14,7 +14,7 @@ use Rattle.text.specs.Bytes.{Line, linesOf}
 use Rattle.scan.specs.declared.Scanned.{Scanned}
 use Rattle.scan.specs.Line.{lineIsGood}
 use Rattle.scan.specs.Scan.{startBehind, isTab, Found, ScanIs, EveryLineScanned, ScanSettled}
-use Rattle.scan.specs.Code.{bodyOf, firstLine, lineAt}
+use Rattle.scan.specs.Positions.{bodyOf, firstLine, lineAt}
 use Rattle.scan.proofs.FirstLine.{passes-behind, first-scanned}
 use Rattle.scan.proofs.Lines.{lines-first, theLine}
 

@@ -14,7 +14,7 @@ use Rattle.least.proofs.Pad.{length-pad, getD-pad}
 use Rattle.text.specs.Bytes.{Line}
 use Rattle.scan.specs.Line.{lineIsGood}
 use Rattle.scan.specs.Scan.{isTab, TabAt, Found, OnlyZeros, ScanIs}
-use Rattle.scan.specs.Code.{firstLine, tabsFrom, firstFive, lineAt}
+use Rattle.scan.specs.Positions.{firstLine, tabsFrom, firstFive, lineAt}
 use Rattle.scan.proofs.Scan.{goodAt, notGood}
 
 -- a tab with k tabs before it is an element that passes with k before it, and the reverse

@@ -15,7 +15,7 @@ use Rattle.text.specs.Bytes.{Line, intoLine, linesOf}
 use Rattle.scan.specs.declared.Scanned.{Scanned}
 use Rattle.scan.specs.Line.{isAllowed, lineIsGood}
 use Rattle.scan.specs.Scan.{Found}
-use Rattle.scan.specs.Code.{bodyOf, isEnded, firstLine, tabsFrom, firstFive, lineAt}
+use Rattle.scan.specs.Positions.{bodyOf, isEnded, firstLine, tabsFrom, firstFive, lineAt}
 use Rattle.scan.proofs.Scan.{goodAt}
 use Rattle.scan.proofs.FirstLine.{first-scanned}
 

@@ -19,7 +19,7 @@ use Rattle.scan.specs.declared.Tabs.{Tabs}
 use Rattle.scan.specs.declared.Scanned.{Scanned}
 use Rattle.scan.specs.Line.{isAllowed, lineIsGood}
 use Rattle.scan.specs.Scan.{isTab}
-use Rattle.scan.specs.Code.{bodyOf, isEnded, firstLine, tabsFrom, firstFive, lineAt}
+use Rattle.scan.specs.Positions.{bodyOf, isEnded, firstLine, tabsFrom, firstFive, lineAt}
 
 abbrev pub goodAt : ℕ → Tabs → Scanned
 goodAt i t = record { good = true; end = i; tabs = t }

@@ -1,3 +1,3 @@
 pub mod Line
 pub mod Scan
-pub mod Code
+pub mod Positions

@@ -2,7 +2,7 @@
 ghost use mathlib.Core.Path.{_≡_};
 ghost use mathlib.Core.Bool.{_&&_};
 ghost use lib.Dec.{leb};
-ghost use Rattle.scan.specs.Code.{lineAt};
+ghost use Rattle.scan.specs.Positions.{lineAt};
 
 // The first five tabs of a line: how many there are, and where they stand.
 pub struct Tabs {

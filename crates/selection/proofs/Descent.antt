@@ -26,10 +26,10 @@ use Rattle.least.proofs.Sums.{sum-rises}
 use Rattle.least.proofs.Fraction.{Finite, finite-ok, finite-below, ⊑-trans, ⊏-trans, ⊑-⊏-trans, ⊏-or-⊑}
 use Rattle.load.specs.declared.Row.{Row}
 use Rattle.load.specs.Load.{loadOf, passesSystem}
-use Rattle.load.specs.Code.{noRow}
+use Rattle.load.specs.Code.Rows.{noRow}
 use Rattle.load.proofs.Load.{loadOf-ok, passes-finite}
 use Rattle.selection.specs.Selection.{choices, leastLoaded}
-use Rattle.selection.specs.Code.{offerAt, offersOf, FineOffers, boundAt, heldBefore}
+use Rattle.selection.specs.Code.Choosing.{offerAt, offersOf, FineOffers, boundAt, heldBefore}
 use Rattle.selection.proofs.Selection.{Picks, choices-iff, leastLoaded-member, leastLoaded-least}
 use Rattle.selection.proofs.Greatest.{After, member-some, leastLoaded-greatest}
 use Rattle.selection.proofs.Places.{Later, Left, chosenAt, chosen-length, chosen-get, picks-left, left-picks, chosen-left, holds-later, left-after, left-same, offers-sorted}

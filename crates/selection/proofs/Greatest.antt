@@ -21,8 +21,8 @@ use Rattle.least.specs.Fraction.{_⊑_, greatestOf}
 use Rattle.least.proofs.Each.{each-map}
 use Rattle.least.proofs.Fraction.{⊑-refl, ⊑-trans, not-⊏, greater-left, greater-right, greater-most, greatestOf-ok}
 use Rattle.load.specs.declared.Row.{Row}
-use Rattle.load.specs.Load.{rowSum, boundOf, boundsOf, loadOf}
-use Rattle.load.proofs.Load.{Asks, heldBelow, boundOf-ok, boundOf-mono, behind-ok}
+use Rattle.load.specs.Load.{rowSum, heldBelow, boundOf, boundsOf, loadOf}
+use Rattle.load.proofs.Load.{Asks, boundOf-ok, boundOf-mono, behind-ok}
 use Rattle.selection.specs.Selection.{choices, leastLoaded}
 use Rattle.selection.proofs.Selection.{Picks, choices-iff, FirstBehind, first-member, first-heavier}
 use Rattle.selection.proofs.Selection.FirstBehind.{here, later}

@@ -15,10 +15,10 @@ use Rattle.least.proofs.Fraction.{⊑-refl, ⊑-trans, ⊏-⊑}
 use Rattle.refusal.specs.Limits.{numberLimit}
 use Rattle.load.specs.declared.Row.{Row}
 use Rattle.load.specs.Load.{row, rowSum, boundOf}
-use Rattle.load.specs.ByColumn.{rowsCosting, rowsBy, FineColumns}
-use Rattle.load.specs.Code.{noRow}
+use Rattle.load.specs.Code.ByColumn.{rowsCosting, rowsBy, FineColumns}
+use Rattle.load.specs.Code.Rows.{noRow}
 use Rattle.load.proofs.RowsBy.{rows-length, rows-get, blocking-none, bound-at}
-use Rattle.selection.specs.Code.{FineBest, boundAt, heldBefore, StuckIs, HeaviestIs}
+use Rattle.selection.specs.Code.Choosing.{FineBest, boundAt, heldBefore, StuckIs, HeaviestIs}
 use Rattle.selection.proofs.Lower.{boundAt-ok, boundAt-small, boundAt-proper}
 
 pub record Ahead (rows : List Row) (s : ℕ) (bound : Frac) (blocking : ℕ) : Type 0 where

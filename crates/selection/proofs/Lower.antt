@@ -18,9 +18,9 @@ use Rattle.least.proofs.Greatest.{greatest-each, greatest-reached}
 use Rattle.least.proofs.Fraction.{Ok, ⊑-trans, not-⊏}
 use Rattle.load.specs.declared.Row.{Row}
 use Rattle.load.specs.Load.{rowSum, boundOf, boundsOf, loadOf}
-use Rattle.load.specs.Code.{noRow, noFrac}
+use Rattle.load.specs.Code.Rows.{noRow, noFrac}
 use Rattle.load.proofs.Load.{boundOf-ok, boundOf-small, bound-proper, boundOf-mono, boundsOf-length, load-greatest}
-use Rattle.selection.specs.Code.{boundAt, heldBefore}
+use Rattle.selection.specs.Code.Choosing.{boundAt, heldBefore}
 use Rattle.selection.proofs.Greatest.{After, after-asks}
 
 -- bounds by places

@@ -17,8 +17,8 @@ use Rattle.least.proofs.Each.{each-get, each-places, length-equal}
 use Rattle.least.proofs.Columns.{column-length, column-get}
 use Rattle.least.proofs.Members.{place-of, getD-member}
 use Rattle.load.specs.declared.Row.{Row}
-use Rattle.load.specs.Code.{noRow}
-use Rattle.selection.specs.Code.{offerAt, offersOf, FineOffers}
+use Rattle.load.specs.Code.Rows.{noRow}
+use Rattle.selection.specs.Code.Choosing.{offerAt, offersOf, FineOffers}
 use Rattle.selection.proofs.Selection.{Picks}
 use Rattle.selection.proofs.Greatest.{After, Falling, Sorted}
 

@@ -15,14 +15,14 @@ use Rattle.least.specs.declared.Least.the-variants.{At, Nothing}
 use Rattle.least.specs.Fraction.{noBound, _⊑_, atMost}
 use Rattle.least.proofs.Search.{LeastIn, least-found, least-missed}
 use Rattle.least.proofs.Fraction.{⊑-noBound, ⊑-⊏-trans, cond-le, atMost-true, atMost-false, leastOver-ok, leastOver-below, leastOver-above}
-use Rattle.demand.specs.Demand.{demandFrom}
+use Rattle.demand.specs.Code.Demand.{demandFrom}
 use Rattle.envelope.specs.declared.LinearSupply.{LinearSupply}
-use Rattle.envelope.specs.Envelope.{metAt, firstMet}
+use Rattle.envelope.specs.Code.Envelope.{metAt, firstMet}
 use Rattle.load.specs.Load.{row, ratio, boundOf}
-use Rattle.load.specs.ByColumn.{rowsCosting}
+use Rattle.load.specs.Code.ByColumn.{rowsCosting}
 use Rattle.load.proofs.Load.{ratio-is, ratio-none, ratio-ok}
 use Rattle.load.proofs.BoundBy.{loadBy, loadBy-is}
-use Rattle.selection.specs.Code.{FineBest, BelowIs}
+use Rattle.selection.specs.Code.Choosing.{FineBest, BelowIs}
 
 ratio-reaches : (best : Frac) (l t : ℕ) → best .num * t < best .den * l + 1 → best ⊑ ratio l t
 unfolding ratio

@@ -18,14 +18,15 @@ use Rattle.least.specs.Lists.{countFrom}
 use Rattle.least.specs.Fraction.{noBound, _⊑_, _⊏_}
 use Rattle.least.proofs.Lists.{count-from, map-same}
 use Rattle.least.proofs.Fraction.{Finite, ⊑-refl, noBound-not-finite}
+use Rattle.refusal.specs.Limits.{keptLimit}
 use Rattle.load.specs.declared.Row.{Row}
-use Rattle.load.specs.ByColumn.{rowAt, rowsBy, FineColumns}
-use Rattle.load.specs.Code.{noRow, FineRow}
+use Rattle.load.specs.Code.ByColumn.{rowAt, rowsBy, FineColumns}
+use Rattle.load.specs.Code.Rows.{noRow, FineRow}
 use Rattle.load.proofs.RowsBy.{rows-length}
 use Rattle.selection.specs.declared.Columns.{Columns}
 use Rattle.selection.specs.declared.Stuck.{Stuck}
 use Rattle.selection.specs.declared.Weight.{Weight}
-use Rattle.selection.specs.Code.{offerAt, FineOffers, FinePlaces, ColumnsAre, FineBest, boundAt, heldBefore, StuckIs, HeaviestIs, MoverIs, ChoiceIs}
+use Rattle.selection.specs.Code.Choosing.{offerAt, FineOffers, FinePlaces, ColumnsAre, FineBest, boundAt, heldBefore, StuckIs, HeaviestIs, MoverIs, ChoiceIs}
 use Rattle.selection.proofs.Places.{chosenAt, chosen-get}
 use Rattle.selection.proofs.Lower.{load-below}
 use Rattle.selection.proofs.Leading.{boundAt-fine}
@@ -69,7 +70,7 @@ module _ {periods budgets holdings counts : List ℕ} {n : ℕ} where
     }
 
     module _ {places : List ℕ} {best : Frac} {sums held : List ℕ} (now : Selecting periods budgets holdings counts n places best sums held) where
-      pub places-below : (k : ℕ) → k < n → getD places k 0 < 121
+      pub places-below : (k : ℕ) → k < n → getD places k 0 < keptLimit
       places-below k h = omega (arith, now .descending .placed k h, fine .counts-most k h)
 
       offer-fine : (k : ℕ) → k < n → FineRow (offerAt periods budgets holdings k (getD places k 0))
@@ -103,7 +104,7 @@ module _ {periods budgets holdings counts : List ℕ} {n : ℕ} where
     long : length (rowsNow t) ≡ n
     long = rows-length periods (c .sums) (c .holdings) n
 
-    pub turn-places : (k : ℕ) → k < n → getD places k 0 < 121
+    pub turn-places : (k : ℕ) → k < n → getD places k 0 < keptLimit
     turn-places = places-below fine (t .selecting)
 
     row-fine : (k : ℕ) → k < n → FineRow (offerAt periods budgets holdings k (getD places k 0))
@@ -130,7 +131,7 @@ module _ {periods budgets holdings counts : List ℕ} {n : ℕ} where
       where
         same : (k : ℕ) → k < n → rowAt periods (c .sums) (c .holdings) k ≡ offerAt periods budgets holdings k (getD places k 0)
         same k h =
-            let e : getD (c .sums) k 0 - getD (c .holdings) k 0 ≡ getD budgets (121 * k + getD places k 0) 0 = omega (arith, are .sums k h, are .times k h) in
+            let e : getD (c .sums) k 0 - getD (c .holdings) k 0 ≡ getD budgets (keptLimit * k + getD places k 0) 0 = omega (arith, are .sums k h, are .times k h) in
             rw (e, are .times k h) refl
 
     module _ (r : Stuck) (stuck : StuckIs (rowsNow t) (t .best) r) where

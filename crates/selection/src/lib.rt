@@ -2,16 +2,18 @@
 use envelope::LinearSupply;
 use least::Frac;
 use least::Least;
+use refusal::KEPT_LIMIT;
+use refusal::OFFER_PLACES;
 ghost use mathlib.Core.Path.{_≡_};
 ghost use mathlib.Core.List.{[]};
 ghost use Prim.Native.Nat.{ℕ, _≤_, _<_};
 ghost use lib.ListN.{getD, drop};
 ghost use Rattle.least.specs.Fraction.{atMost};
-ghost use Rattle.refusal.specs.Limits.{numberLimit};
-ghost use Rattle.demand.specs.Demand.{FineDemand};
+ghost use Rattle.refusal.specs.Limits.{numberLimit, partLimit, keptLimit};
+ghost use Rattle.demand.specs.Code.Demand.{FineDemand};
 ghost use Rattle.load.specs.Load.{row, boundOf};
-ghost use Rattle.load.specs.ByColumn.{rowsCosting, rowsBy, ownLimit, FineColumns};
-ghost use Rattle.selection.specs.Code.{FineOffers, FinePlaces, ColumnsAre, FineBest, BelowIs, StuckIs, HeaviestIs, MoverIs, ChoiceIs};
+ghost use Rattle.load.specs.Code.ByColumn.{rowsCosting, rowsBy, ownLimit, FineColumns};
+ghost use Rattle.selection.specs.Code.Choosing.{FineOffers, FinePlaces, ColumnsAre, FineBest, BelowIs, StuckIs, HeaviestIs, MoverIs, ChoiceIs};
 
 // A choice by columns: what each part's row costs, and its holding time.
 pub struct Columns {
@@ -21,8 +23,8 @@ pub struct Columns {
 
 // The rows at the places of the parts.
 fn columns_at(
-    budgets: &[u64; 1936],
-    holdings: &[u64; 1936],
+    budgets: &[u64; OFFER_PLACES],
+    holdings: &[u64; OFFER_PLACES],
     places: &[usize; 16],
     n: usize,
 ) -> Columns
@@ -33,7 +35,7 @@ fn columns_at(
     let mut held = [0u64; 16];
     let mut k = 0;
     while k < n {
-        let i = 121 * k + places[k];
+        let i = KEPT_LIMIT * k + places[k];
         held[k] = holdings[i];
         sums[k] = budgets[i] + holdings[i];
         k += 1;
@@ -156,7 +158,7 @@ fn mover(
     n: usize,
     x: u64,
 ) -> usize
-    requires { ⌜ (n ≤ 16) × ((k : ℕ) → k < n → getD (now places) k 0 < 121) ⌝ }
+    requires { ⌜ (n ≤ partLimit) × ((k : ℕ) → k < n → getD (now places) k 0 < keptLimit) ⌝ }
     ensures { λ j. ⌜ MoverIs (now (counts .entry)) (now (holdings .entry)) (now (places .entry)) n x j ⌝ }
 {
     let mut j = 0;
@@ -183,8 +185,8 @@ pub struct Choice {
 // so far only if its blocking falls: the lower part that causes this blocking moves on to its next row, and where it has none the search is over.
 pub fn select(
     periods: &[u64; 16],
-    budgets: &[u64; 1936],
-    holdings: &[u64; 1936],
+    budgets: &[u64; OFFER_PLACES],
+    holdings: &[u64; OFFER_PLACES],
     counts: &[usize; 16],
     n: usize,
 ) -> Choice

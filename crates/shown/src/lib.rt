@@ -2,8 +2,11 @@
 use holding::Ceiling;
 use task_set::Part;
 ghost use mathlib.Core.Path.{_≡_};
-ghost use Rattle.task_set.specs.Fine.{FinePart};
-ghost use Rattle.shown.specs.Shown.{ceilingOr0, ShownAre};
+ghost use Prim.Native.Nat.{_<_};
+ghost use lib.ListN.{length};
+ghost use Rattle.task_set.specs.Code.Partition.{partitionOf};
+ghost use Rattle.task_set.specs.Code.Fine.{FinePart};
+ghost use Rattle.shown.specs.Code.Shown.{ceilingOr0, Shown};
 
 // The ceiling that was found; 0 where there is none.
 fn ceiling_or_0(c: Ceiling) -> u64
@@ -15,10 +18,11 @@ fn ceiling_or_0(c: Ceiling) -> u64
     }
 }
 
-// The ceilings shown for x, lock by lock in order of first mention: the lowest that are held for at most x.
-pub fn shown_ceilings(part: Part, x: u64) -> [u64; 8]
+// The ceilings shown for x, lock by lock in order of first mention: the lowest that are held for at most x. The part at the place k has the places from 8 k on.
+pub fn show_ceilings(part: Part, x: u64, k: usize, ceilings: &mut [u64])
     requires { ⌜ FinePart part ⌝ }
-    ensures { λ r. ⌜ ShownAre part x r ⌝ }
+    requires { ⌜ (k < 16) × (length (now ceilings) ≡ 128) ⌝ }
+    ensures { λ r. ⌜ Shown (partitionOf part) x k (now (ceilings .entry)) (now (ceilings .exit)) ⌝ }
 {
     let columns = task_set::columns_of(part);
     let separations = columns.separations;
@@ -27,7 +31,7 @@ pub fn shown_ceilings(part: Part, x: u64) -> [u64; 8]
     let longest = locks.longest;
     let limits = locks.deadlines;
     let lowest = locks.lowest;
-    let mut ceilings = [0u64; 8];
+    let first = 8 * k;
     let mut hint = holding::no_hint();
     let mut j = 0;
     while j < part.locks {
@@ -43,8 +47,7 @@ pub fn shown_ceilings(part: Part, x: u64) -> [u64; 8]
         );
         hint = found.hint;
         let ceiling = found.ceiling;
-        ceilings[j] = ceiling_or_0(ceiling);
+        ceilings[first + j] = ceiling_or_0(ceiling);
         j += 1;
     }
-    ceilings
 }

@@ -1,3 +1,4 @@
 pub mod Supply
 pub mod Signed
 pub mod Linear
+pub mod Code

@@ -3,11 +3,9 @@
 -- 1 ≤ Q ≤ P is understood.
 --   roundOf P Q t  == k: the larger of ⌈(t − (P−Q))/P⌉ and 1
 --   supplyOf P Q t == the supply of (P,Q) in t ticks
---   ReachIs P Q x r == r is the least t in which (P,Q) supplies x ticks
 -- A difference is cut off at 0, which changes nothing: Signed.antt has the formula in signed numbers, and law `supply-signed` says that both agree.
 -- Assumes nothing.
-use Prim.Native.Nat.{ℕ, _+_, _-_, _*_, max, _≤_}
-use mathlib.Core.Logic.{_↔_}
+use Prim.Native.Nat.{ℕ, _+_, _-_, _*_, max}
 use mathlib.Core.Bool.{cond, _&&_}
 use lib.Dec.{leb}
 use Rattle.least.specs.Round.{ceilDiv}
@@ -24,6 +22,3 @@ supplyAt P Q t k =
 
 unfoldable pub supplyOf : ℕ → ℕ → ℕ → ℕ
 supplyOf P Q t = supplyAt P Q t (roundOf P Q t)
-
-pub record ReachIs (P Q x r : ℕ) : Type 0 where
-  pub least : (t : ℕ) → (x ≤ supplyOf P Q t) ↔ (r ≤ t)

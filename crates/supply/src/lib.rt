@@ -2,7 +2,8 @@
 ghost use mathlib.Core.Path.{_≡_};
 ghost use Prim.Native.Nat.{_+_, _≤_};
 ghost use Rattle.refusal.specs.Limits.{numberLimit};
-ghost use Rattle.supply.specs.Supply.{supplyOf, ReachIs};
+ghost use Rattle.supply.specs.Supply.{supplyOf};
+ghost use Rattle.supply.specs.Code.Supply.{ReachIs};
 
 // The least number of ticks that a budget of q in every p ticks gives in any t ticks.
 pub fn supply(p: u64, q: u64, t: u64) -> u64

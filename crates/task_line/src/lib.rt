@@ -4,13 +4,11 @@ use plan_file::Entry;
 use plan_file::Names;
 use plan_file::Times;
 use refusal::Refusal;
+use refusal::TASK_LIMIT;
 use stretch::Span;
 ghost use mathlib.Core.Path.{_≡_};
 ghost use Rattle.stretch.specs.Stretch.{bytesOf};
-ghost use Rattle.plan_file.specs.Entries.{FineNames, timesIn, taskEntry};
-
-// The greatest number of tasks in a part.
-const TASK_LIMIT: usize = 16;
+ghost use Rattle.plan_file.specs.Code.Entries.{FineNames, timesIn, taskEntry};
 
 fn read_times(s: &[u8], separation: Span, cost: Span, deadline: Span) -> Times
     ensures { λ r. ⌜ r ≡ timesIn (bytesOf (now (s .entry)) separation) (bytesOf (now (s .entry)) cost) (bytesOf (now (s .entry)) deadline) ⌝ }

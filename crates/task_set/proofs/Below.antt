@@ -12,8 +12,8 @@ use Rattle.least.proofs.Greatest.{greatest-take}
 use Rattle.least.proofs.Fill.{Filled}
 use Rattle.task_set.specs.declared.Part.{Part}
 use Rattle.task_set.specs.Tasks.{heldFor}
-use Rattle.task_set.specs.Fine.{blankTask}
-use Rattle.task_set.specs.ByLock.{LongestBelow}
+use Rattle.task_set.specs.Code.Fine.{blankTask}
+use Rattle.task_set.specs.Code.ByLock.{LongestBelow}
 
 -- the longest use of the lock at the place j by a task below the place i
 abbrev longest : Part → ℕ → ℕ → ℕ

@@ -1,6 +1,7 @@
 -- The blocking by ceilings and the table of the longest uses: it is the paper's blocking, and it is small.
 -- Assumes nothing.
 use Prim.Native.Nat.{ℕ, zero, suc, _+_, _-_, _*_, _≤_, _<_}
+use native.Mathlib.Nat.{zero-add}
 use native.Mathlib.Omega.{arith}
 use native.Mathlib.Decide.{decLe}
 use mathlib.Core.Path.{_≡_, refl, ap, _∙_}
@@ -15,10 +16,11 @@ use Rattle.least.proofs.Members.{take-member, reverse-iff}
 use Rattle.refusal.specs.Limits.{numberLimit}
 use Rattle.task_set.specs.declared.Task.{Task}
 use Rattle.task_set.specs.declared.Part.{Part}
-use Rattle.task_set.specs.Tasks.{heldFor, withLocks, tasksOf}
+use Rattle.task_set.specs.Tasks.{heldFor}
+use Rattle.task_set.specs.Code.Tasks.{withLocks, tasksOf}
 use Rattle.task_set.specs.Blocking.{Setting, blockingOf}
-use Rattle.task_set.specs.Fine.{FinePart}
-use Rattle.task_set.specs.ByLock.{LongestBelow, blockedFor, blockingBy, settingOf, lowerThan}
+use Rattle.task_set.specs.Code.Fine.{FinePart}
+use Rattle.task_set.specs.Code.ByLock.{LongestBelow, blockedFor, blockingBy, settingFrom, settingOf, lowerThan}
 use Rattle.task_set.proofs.Places.{tasks-length, tasks-take, held-at}
 use Rattle.task_set.proofs.Blocking.{Reaches, Blocks, blocking-paper}
 use Rattle.task_set.proofs.ByLock.{held-most}
@@ -29,8 +31,12 @@ blocked-for-is ceiling c i h = rw (le-leb (suc i) ceiling h) refl
 pub blocked-for-not : (ceiling c i : ℕ) → ceiling ≤ i → blockedFor ceiling c i ≡ 0
 blocked-for-not ceiling c i h = rw (lt-leb (suc i) ceiling (omega arith)) refl
 
-setting-at : (ceilings : List ℕ) (j : ℕ) → settingOf ceilings (suc j) ≡ getD ceilings j 0
-setting-at ceilings j = let e : suc j - 1 ≡ j = omega arith in rw e refl
+-- the ceiling at each place
+pub setting-from-at : (ceilings : List ℕ) (first j : ℕ) → settingFrom ceilings first (suc j) ≡ getD ceilings (first + j) 0
+setting-from-at ceilings first j = let e : suc j - 1 ≡ j = omega arith in rw e refl
+
+pub setting-at : (ceilings : List ℕ) (j : ℕ) → settingOf ceilings (suc j) ≡ getD ceilings j 0
+setting-at ceilings j = setting-from-at ceilings 0 j ∙ ap (λ (i : ℕ). getD ceilings i 0) (zero-add j)
 
 -- tasks of a fine part block for no more ticks than a number may have
 pub blocking-most : (p : Part) → FinePart p → (σ : Setting) (lower : List Task) → ((t : Task) → List·Memᴰ t lower → List·Memᴰ t (tasksOf p)) → blockingOf (p .locks) σ lower ≤ numberLimit

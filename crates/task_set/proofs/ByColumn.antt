@@ -8,9 +8,10 @@ use Rattle.demand.proofs.Demand.{list-demand}
 use Rattle.task_set.specs.declared.Task.{Task}
 use Rattle.task_set.specs.declared.Part.{Part}
 use Rattle.task_set.specs.declared.Columns.{Columns}
-use Rattle.task_set.specs.Tasks.{demandIn, withLocks, tasksOf}
-use Rattle.task_set.specs.Fine.{blankTask, FinePart}
-use Rattle.task_set.specs.ByColumn.{timesOf, FineTime, FineTimes, ColumnsAre}
+use Rattle.task_set.specs.Tasks.{demandIn}
+use Rattle.task_set.specs.Code.Tasks.{withLocks, tasksOf}
+use Rattle.task_set.specs.Code.Fine.{blankTask, FinePart}
+use Rattle.task_set.specs.Code.ByColumn.{timesOf, FineTime, FineTimes, ColumnsAre}
 use Rattle.task_set.proofs.Places.{tasks-length, tasks-get}
 use Rattle.task_set.proofs.Times.{times-demand}
 

@@ -21,9 +21,10 @@ use Rattle.refusal.specs.Limits.{numberLimit}
 use Rattle.task_set.specs.declared.Task.{Task}
 use Rattle.task_set.specs.declared.Part.{Part}
 use Rattle.task_set.specs.declared.Lock.{Lock}
-use Rattle.task_set.specs.Tasks.{heldFor, uses, lowestCeiling, greatestHeld, smallestDeadline, withLocks, tasksOf}
-use Rattle.task_set.specs.Fine.{blankTask, FinePart}
-use Rattle.task_set.specs.ByLock.{lockOf, earlier, withUser}
+use Rattle.task_set.specs.Tasks.{heldFor, uses, lowestCeiling, greatestHeld, smallestDeadline}
+use Rattle.task_set.specs.Code.Tasks.{withLocks, tasksOf}
+use Rattle.task_set.specs.Code.Fine.{blankTask, FinePart}
+use Rattle.task_set.specs.Code.ByLock.{lockOf, earlier, withUser}
 use Rattle.task_set.proofs.Places.{tasks-at, tasks-length, tasks-place, held-at}
 
 -- the smaller of two deadlines, where 0 stands for none

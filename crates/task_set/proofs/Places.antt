@@ -10,8 +10,9 @@ use Rattle.least.proofs.Lists.{nth-get}
 use Rattle.least.proofs.Members.{place-of}
 use Rattle.task_set.specs.declared.Task.{Task}
 use Rattle.task_set.specs.declared.Part.{Part}
-use Rattle.task_set.specs.Tasks.{heldFor, withLocks, tasksOf}
-use Rattle.task_set.specs.Fine.{blankTask, FinePart}
+use Rattle.task_set.specs.Tasks.{heldFor}
+use Rattle.task_set.specs.Code.Tasks.{withLocks, tasksOf}
+use Rattle.task_set.specs.Code.Fine.{blankTask, FinePart}
 
 drop-map : {A B : Type 0} (f : A → B) (k : ℕ) (l : List A) → drop k (map f l) ≡ map f (drop k l)
 drop-map f zero l = refl

@@ -7,12 +7,12 @@ use mathlib.Core.List.{List}
 use lib.ListN.{length, drop, getD}
 use Rattle.least.proofs.Columns.{column-length, column-get}
 use Rattle.least.proofs.Members.{each-place}
-use Rattle.demand.specs.Demand.{demandFrom, FineDemand}
+use Rattle.demand.specs.Code.Demand.{demandFrom, FineDemand}
 use Rattle.demand.proofs.Demand.{list-demand}
 use Rattle.task_set.specs.declared.Task.{Task}
 use Rattle.task_set.specs.Tasks.{demandIn}
-use Rattle.task_set.specs.Fine.{blankTask}
-use Rattle.task_set.specs.ByColumn.{timesAt, timesOf, FineTimes}
+use Rattle.task_set.specs.Code.Fine.{blankTask}
+use Rattle.task_set.specs.Code.ByColumn.{timesAt, timesOf, FineTimes}
 use Rattle.task_set.proofs.Demand.{Separated}
 
 module _ (T C : List ℕ) (n : ℕ) where

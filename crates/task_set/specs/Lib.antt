@@ -1,5 +1,4 @@
 pub mod Tasks
+pub mod Partition
 pub mod Blocking
-pub mod Fine
-pub mod ByColumn
-pub mod ByLock
+pub mod Code

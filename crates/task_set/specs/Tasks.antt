@@ -6,17 +6,15 @@
 --   lowestCeiling l ts == the greatest task number that uses lock l
 --   greatestHeld l ts  == g: the greatest c of lock l in this part
 --   smallestDeadline l ts == the smallest deadline among the users of lock l
---   tasksOf part       == the tasks that the struct `Part` holds: the one place where its counts and unused places occur
 -- Assumes nothing.
 use Prim.Native.Nat.{ℕ, _*_}
 use mathlib.Core.Bool.{Bool}
 use mathlib.Core.List.{List, map}
 use lib.Dec.{leb}
-use lib.ListN.{take, drop}
+use lib.ListN.{drop}
 use Rattle.least.specs.Round.{ceilDiv}
 use Rattle.least.specs.Lists.{sum, greatest, smallest, nthOr, those, numbersOf}
 use Rattle.task_set.specs.declared.Task.{Task}
-use Rattle.task_set.specs.declared.Part.{Part}
 
 unfoldable pub heldFor : ℕ → Task → ℕ
 heldFor l task = nthOr 0 l (task .uses)
@@ -38,10 +36,3 @@ greatestHeld l ts = greatest (map (heldFor l) ts)
 
 unfoldable pub smallestDeadline : ℕ → List Task → ℕ
 smallestDeadline l ts = smallest (map (λ k. k .deadline) (those (uses l) ts))
-
--- a task with the numbers of the m locks that there are
-abbrev pub withLocks : ℕ → Task → Task
-withLocks m task = record { separation = task .separation; cost = task .cost; deadline = task .deadline; uses = take m (task .uses) }
-
-unfoldable pub tasksOf : Part → List Task
-tasksOf part = map (withLocks (part .locks)) (take (part .count) (part .tasks))

@@ -1,10 +1,10 @@
 // The tasks of a part and the locks that they share.
 ghost use mathlib.Core.Path.{_≡_};
 ghost use Prim.Native.Nat.{suc, _≤_, _<_};
-ghost use Rattle.task_set.specs.Tasks.{tasksOf};
-ghost use Rattle.task_set.specs.Fine.{FinePart};
-ghost use Rattle.task_set.specs.ByColumn.{ColumnsAre};
-ghost use Rattle.task_set.specs.ByLock.{lockOf, earlier, withUser, LocksAre, LongestBelow, blockedFor, blockingBy};
+ghost use Rattle.task_set.specs.Code.Tasks.{tasksOf};
+ghost use Rattle.task_set.specs.Code.Fine.{FinePart};
+ghost use Rattle.task_set.specs.Code.ByColumn.{ColumnsAre};
+ghost use Rattle.task_set.specs.Code.ByLock.{lockOf, earlier, withUser, LocksAre, LongestBelow, blockedFor, blockingBy};
 
 // A task: least separation T, worst execution time C, deadline D; and for each lock of the part, in order of first mention, how long the
 // task holds it at most, 0 where it does not use it.

@@ -6,12 +6,12 @@ use native.Mathlib.Omega.{arith}
 use mathlib.Core.Path.{_≡_, refl}
 use lib.ListN.{drop, getD}
 use Rattle.least.specs.Lists.{sum}
-use Rattle.envelope.specs.Envelope.{slopeScale}
+use Rattle.envelope.specs.Code.Envelope.{slopeScale}
 use Rattle.task_set.specs.declared.Part.{Part}
-use Rattle.task_set.specs.Tasks.{tasksOf}
-use Rattle.task_set.specs.Fine.{FinePart, blankTask}
+use Rattle.task_set.specs.Code.Tasks.{tasksOf}
+use Rattle.task_set.specs.Code.Fine.{FinePart, blankTask}
 use Rattle.task_set.proofs.Places.{tasks-at, tasks-end}
-use Rattle.utilisation.specs.Utilisation.{share, shareIn}
+use Rattle.utilisation.specs.Code.Utilisation.{share, shareIn}
 
 -- a task asks for at most the whole processor
 pub share-most : (C T : ℕ) → C ≤ T → share C T ≤ slopeScale

@@ -10,7 +10,7 @@ use Rattle.least.specs.Each.{Each, none, more}
 use Rattle.least.specs.Lists.{sum, greatest}
 use Rattle.least.specs.Round.{ceilDiv}
 use Rattle.least.proofs.Round.{ceil-covers}
-use Rattle.envelope.specs.Envelope.{slopeScale}
+use Rattle.envelope.specs.Code.Envelope.{slopeScale}
 use Rattle.load.specs.declared.Row.{Row}
 use Rattle.load.specs.Load.{rowSum, demandOf, loadAt, passesSystem}
 use Rattle.load.proofs.Load.{passes-paper}

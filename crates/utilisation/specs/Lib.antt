@@ -1,1 +1,1 @@
-pub mod Utilisation
+pub mod Code

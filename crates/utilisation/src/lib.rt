@@ -1,8 +1,8 @@
 // The utilisation of a part: where that of all parts is above 1, no choice passes the system test.
 use envelope::SCALE;
 use task_set::Part;
-ghost use Rattle.task_set.specs.Fine.{FinePart};
-ghost use Rattle.utilisation.specs.Utilisation.{ShareIs};
+ghost use Rattle.task_set.specs.Code.Fine.{FinePart};
+ghost use Rattle.utilisation.specs.Code.Utilisation.{ShareIs};
 
 // The utilisation of a part's tasks, rounded down, in parts of SCALE.
 pub fn share_of(part: Part) -> u64

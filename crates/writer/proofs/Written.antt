@@ -8,7 +8,7 @@ use mathlib.Core.Path.{_≡_, refl, sym, ap, ap₂, subst, _∙_}
 use mathlib.Core.List.{List, [], _∷_, _++_, append-nil, append-assoc}
 use lib.ListN.{length, take, drop, getD, set, length-set, length-append, length-drop, take-append-drop, drop-of-length-le}
 use lib.Seq.{length-take-le, take-at, drop-drop, drop-cons, drop-append-add, take-set-le, drop-set-lt, getD-set-same, set-split, append-snoc}
-use Rattle.writer.specs.Written.{written, Written}
+use Rattle.writer.specs.Code.Written.{written, Written}
 
 -- what stands before the end of a piece has the length that it should
 front-length : (at : ℕ) (p b : List ℕ) → at ≤ length b → length (take at b ++ p) ≡ at + length p

@@ -4,7 +4,7 @@ ghost use mathlib.Core.List.{[], _∷_, _++_};
 ghost use Prim.Native.Nat.{_+_, _≤_};
 ghost use lib.ListN.{length};
 ghost use Rattle.text.specs.Decimal.{digitsOf};
-ghost use Rattle.writer.specs.Written.{Written};
+ghost use Rattle.writer.specs.Code.Written.{Written};
 
 // One byte.
 fn write_byte(out: &mut [u8], at: usize, b: u8) -> usize

@@ -6,11 +6,11 @@ use native.Mathlib.Numerals.{add-one}
 use native.Mathlib.Omega.{arith}
 use lib.ListN.{drop, getD}
 use Rattle.least.proofs.Bisect.{Bracket, bracket-start}
-use Rattle.demand.specs.Demand.{demandFrom}
+use Rattle.demand.specs.Code.Demand.{demandFrom}
 use Rattle.task_set.specs.Blocking.{needOf}
-use Rattle.task_set.specs.ByColumn.{timesOf, FineTime}
+use Rattle.task_set.specs.Code.ByColumn.{timesOf, FineTime}
 use Rattle.task_set.proofs.Times.{times-demand, times-fine}
-use Rattle.budget.specs.Code.{dueTask, EnoughIs}
+use Rattle.budget.specs.Code.Passing.{dueTask, EnoughIs}
 use Rattle.budget.proofs.Enough.{enough, enough-none, enough-down, enough-up, enough-end}
 use Rattle.budget.proofs.enough_at.Statement.{statement}
 use Rattle.budget.proofs.enough_at.Tie as tie

@@ -12,10 +12,10 @@ use Rattle.demand.proofs.Demand.{demand-same}
 use Rattle.task_set.specs.declared.Task.{Task}
 use Rattle.task_set.specs.Tasks.{demandIn}
 use Rattle.task_set.specs.Blocking.{needOf}
-use Rattle.task_set.specs.ByColumn.{timesOf}
+use Rattle.task_set.specs.Code.ByColumn.{timesOf}
 use Rattle.task_set.proofs.Demand.{Separated, separated-drop}
 use Rattle.task_set.proofs.Times.{times-demand, times-fine, times-separated}
-use Rattle.budget.specs.Code.{dueTask, passingTime}
+use Rattle.budget.specs.Code.Passing.{dueTask, passingTime}
 use Rattle.budget.proofs.Narrow.{Narrowed, time-within, narrow-here, narrow-start, narrow-down, narrow-up, narrow-end, narrow-none}
 use Rattle.budget.proofs.least_budget.Statement.{statement}
 use Rattle.budget.proofs.least_budget.Tie as tie

@@ -8,14 +8,14 @@ use native.Mathlib.Omega.{arith}
 use lib.ListN.{drop, getD}
 use Rattle.least.proofs.Iterate.{Unsolved, step-unsolved, jump-unsolved}
 use Rattle.supply.proofs.SupplyLaws.{reach}
-use Rattle.demand.specs.Demand.{demandFrom}
-use Rattle.envelope.specs.Envelope.{NoEarlier}
+use Rattle.demand.specs.Code.Demand.{demandFrom}
+use Rattle.envelope.specs.Code.Envelope.{NoEarlier}
 use Rattle.task_set.specs.declared.Task.{Task}
 use Rattle.task_set.specs.Blocking.{needOf}
-use Rattle.task_set.specs.ByColumn.{timesOf, FineTime}
+use Rattle.task_set.specs.Code.ByColumn.{timesOf, FineTime}
 use Rattle.task_set.proofs.Demand.{Separated, separated-drop}
 use Rattle.task_set.proofs.Times.{times-demand, times-fine, times-separated}
-use Rattle.budget.specs.Code.{dueTask}
+use Rattle.budget.specs.Code.Passing.{dueTask}
 use Rattle.budget.proofs.Iteration.{ticks, reach-unique, need-some, ticks-mono, start-unmet, time-past, time-over, time-met, lineOf, line-fine, line-jump}
 use Rattle.budget.proofs.passing_time.Statement.{statement}
 use Rattle.budget.proofs.passing_time.Tie as tie

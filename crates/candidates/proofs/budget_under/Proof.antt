@@ -10,8 +10,8 @@ use mathlib.Core.Logic.{⊎-elim}
 use lib.ListN.{length}
 use Rattle.refusal.specs.Limits.{numberLimit}
 use Rattle.task_set.specs.declared.Task.{Task}
-use Rattle.task_set.specs.ByColumn.{timesOf}
-use Rattle.task_set.specs.ByLock.{blockingBy}
+use Rattle.task_set.specs.Code.ByColumn.{timesOf}
+use Rattle.task_set.specs.Code.ByLock.{blockingBy}
 use Rattle.candidates.proofs.Budgets.{Lowered, lowered-start, lowered-step, lowered-none, lowered-end}
 use Rattle.candidates.proofs.Starts.{Carried, carried-start, carried-below, carried-step}
 use Rattle.candidates.proofs.budget_under.Statement.{statement}

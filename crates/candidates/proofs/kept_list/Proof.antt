@@ -4,14 +4,15 @@ use Prim.Native.Nat.{_-_, _≤_}
 use native.Mathlib.Omega.{arith}
 use mathlib.Core.Path.{_≡_}
 use Rattle.least.specs.Lists.{pad}
+use Rattle.refusal.specs.Limits.{keptLimit}
 use Rattle.candidates.specs.Candidates.{pair}
-use Rattle.candidates.specs.Code.{pairsOf}
+use Rattle.candidates.specs.Code.KeptSearch.{pairsOf}
 use Rattle.candidates.proofs.Pairs.{kept-start, kept-step, kept-end}
 use Rattle.candidates.proofs.kept_list.Statement.{statement}
 use Rattle.candidates.proofs.kept_list.Tie as tie
 
 abbrev Inv-loop : tie.InvT-loop
-Inv-loop budgets holdings count pairs₀ i₀ pairs i = (i ≤ count) × (pairs ≡ pad 121 (pair 0 0) (pairsOf budgets holdings i))
+Inv-loop budgets holdings count pairs₀ i₀ pairs i = (i ≤ count) × (pairs ≡ pad keptLimit (pair 0 0) (pairsOf budgets holdings i))
 
 abbrev μ-loop : tie.MeasureT-loop
 μ-loop budgets holdings count pairs₀ i₀ pairs i = count - i

@@ -6,7 +6,7 @@ use borrow.Author.Tests.{not-true, not-false}
 use mathlib.Core.Path.{_≡_, _∙_}
 use mathlib.Core.Bool.{true}
 use mathlib.Core.List.{List}
-use Rattle.refusal.specs.Limits.{numberLimit}
+use Rattle.refusal.specs.Limits.{numberLimit, keptLimit}
 use Rattle.task_set.specs.declared.Part.{Part}
 use Rattle.task_set.specs.declared.Columns.{Columns}
 use Rattle.task_set.specs.declared.Locks.{Locks}
@@ -82,7 +82,7 @@ raise-requires c κs =
     (times-fine (part d) (columns d) (locks d) (table d) (ready d), locks-fine (part d) (columns d) (locks d) (table d) (ready d) (at .ceilings) (at .inv .ceilings-most))
 
 -- the count of the list so far
-few : (c : tie.After-raise Inv-loop μ-loop) → c .before .before .before .before .before .loop .count ≤ 121
+few : (c : tie.After-raise Inv-loop μ-loop) → c .before .before .before .before .before .loop .count ≤ keptLimit
 few c =
     let d = before-loop c in
     let at = c .before .before .before .before .before .loop in
@@ -133,7 +133,7 @@ lighter-count-requires c κs =
     (few r, sums-small (part d) (columns d) (locks d) (table d) (ready d) (at .ceilings) (at .times) (at .blocked) (at .budget) (at .budgets) (at .holdings) (at .count) (at .x) (at .inv))
 
 -- there is room for one pair more
-fits : (c : tie.After-lighter-count Inv-loop μ-loop) → c .lighter-count .result < 121
+fits : (c : tie.After-lighter-count Inv-loop μ-loop) → c .lighter-count .result < keptLimit
 fits c =
     let b = budget-of c in
     let r = raise-of b in

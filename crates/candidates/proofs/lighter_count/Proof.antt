@@ -4,7 +4,7 @@ use Prim.Native.Nat.{ℕ, _-_, _≤_, _<_}
 use native.Mathlib.Omega.{arith}
 use native.Mathlib.Decide.{decLe}
 use mathlib.Core.Path.{_≡_}
-use Rattle.candidates.specs.Code.{sumAt}
+use Rattle.candidates.specs.Code.KeptSearch.{sumAt}
 use Rattle.candidates.proofs.lighter_count.Statement.{statement}
 use Rattle.candidates.proofs.lighter_count.Tie as tie
 

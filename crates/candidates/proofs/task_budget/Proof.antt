@@ -6,8 +6,8 @@ use mathlib.Core.List.{List}
 use lib.ListN.{drop}
 use borrow.Author.Needs.{needs}
 use Rattle.task_set.specs.declared.Task.{Task}
-use Rattle.task_set.specs.ByColumn.{timesOf}
-use Rattle.budget.specs.Code.{dueTask}
+use Rattle.task_set.specs.Code.ByColumn.{timesOf}
+use Rattle.budget.specs.Code.Passing.{dueTask}
 use Rattle.budget.proofs.Narrow.{passed-at}
 use Rattle.candidates.proofs.Budgets.{again-same, again-other}
 use Rattle.candidates.proofs.task_budget.Statement.{statement}

@@ -5,7 +5,7 @@ use mathlib.Core.Path.{_≡_}
 use lib.ListN.{getD}
 use native.Mathlib.Numerals.{add-one}
 use native.Mathlib.Omega.{arith}
-use Rattle.demand.specs.Demand.{demandFrom, demandLimit}
+use Rattle.demand.specs.Code.Demand.{demandFrom, demandLimit}
 use Rattle.demand.proofs.Demand.{demand-none, demand-next, demand-most}
 use Rattle.demand.proofs.demand_from.Statement.{statement}
 use Rattle.demand.proofs.demand_from.Tie as tie

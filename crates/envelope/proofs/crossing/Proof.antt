@@ -6,7 +6,7 @@ use native.Mathlib.Omega.{arith}
 use borrow.Author.Needs.{needs}
 use Rattle.least.proofs.Round.{product}
 use Rattle.refusal.specs.Limits.{numberLimit}
-use Rattle.envelope.specs.Envelope.{slopeScale}
+use Rattle.envelope.specs.Code.Envelope.{slopeScale}
 use Rattle.envelope.proofs.Jump.{crossing-never, crossing-at}
 use Rattle.envelope.proofs.crossing.Statement.{statement}
 use Rattle.envelope.proofs.crossing.Tie as tie

@@ -6,7 +6,7 @@ use lib.ListN.{getD}
 use native.Mathlib.Numerals.{add-one}
 use native.Mathlib.Omega.{arith}
 use Rattle.least.proofs.Round.{ceil-under}
-use Rattle.demand.specs.Demand.{demandFrom, demandLimit}
+use Rattle.demand.specs.Code.Demand.{demandFrom, demandLimit}
 use Rattle.demand.proofs.Demand.{demand-most}
 use Rattle.envelope.proofs.Under.{Under, under-start, under-fixed-most, under-fixed, under-slope, under-end}
 use Rattle.envelope.proofs.line_from.Statement.{statement}

@@ -4,8 +4,8 @@ use Prim.Native.Nat.{_+_, _-_, _≤_}
 use native.Mathlib.Nat.{le-refl}
 use native.Mathlib.Omega.{arith}
 use Rattle.refusal.specs.Limits.{numberLimit}
-use Rattle.demand.specs.Demand.{demandFrom}
-use Rattle.envelope.specs.Envelope.{NoEarlier}
+use Rattle.demand.specs.Code.Demand.{demandFrom}
+use Rattle.envelope.specs.Code.Envelope.{NoEarlier}
 use Rattle.envelope.proofs.Jump.{under-crossing}
 use Rattle.envelope.proofs.no_earlier.Statement.{statement}
 use Rattle.envelope.proofs.no_earlier.Tie as tie

@@ -4,7 +4,7 @@ use Prim.Native.Nat.{_*_}
 use native.Mathlib.Nat.{div-le-self}
 use native.Mathlib.Omega.{arith}
 use borrow.Author.Needs.{needs}
-use Rattle.envelope.specs.Envelope.{slopeScale}
+use Rattle.envelope.specs.Code.Envelope.{slopeScale}
 use Rattle.envelope.proofs.steeper.Statement.{statement}
 use Rattle.envelope.proofs.steeper.Tie as tie
 

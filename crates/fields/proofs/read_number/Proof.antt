@@ -1,7 +1,7 @@
 -- `fields::read_number` meets its contract. The invariant: the digits so far spell v, and what is left decides.
 -- Assumes nothing.
 use native.Mathlib.Omega.{arith}
-use Rattle.fields.specs.Fields.{numberIn}
+use Rattle.fields.specs.Code.Fields.{numberIn}
 use Rattle.refusal.specs.Limits.{numberLimit}
 use Rattle.fields.proofs.Reading.{numberFrom, number-start, number-empty, number-zero, number-large, number-more, number-not, number-end}
 use Prim.Native.Nat.{_+_, _-_, _≤_}

@@ -2,6 +2,7 @@
 -- Assumes nothing.
 use Prim.Native.Nat.{_-_}
 use borrow.Author.Needs.{needs}
+use Rattle.refusal.specs.Limits.{keptLimit}
 use Rattle.figures.proofs.print_pairs.Statement.{statement}
 use Rattle.figures.proofs.print_pairs.Tie as tie
 
@@ -9,7 +10,7 @@ abbrev Inv-loop : tie.InvT-loop
 Inv-loop kept count i₀ t6 t7 i = Unit {0}
 
 abbrev μ-loop : tie.MeasureT-loop
-μ-loop kept count i₀ t6 t7 i = 121 - i
+μ-loop kept count i₀ t6 t7 i = keptLimit - i
 
 loop-holds : tie.Need-loop-holds Inv-loop μ-loop
 loop-holds c = search needs

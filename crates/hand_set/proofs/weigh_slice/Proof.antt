@@ -52,7 +52,8 @@ use Rattle.load.specs.declared.Row.{Row}
 use Rattle.load.specs.declared.Rows.{Rows}
 use Rattle.load.specs.declared.Weighed.{Weighed}
 use Rattle.load.specs.Load.{row}
-use Rattle.load.specs.Weigh.{rowsFrom, weighOf, weighRows}
+use Rattle.load.specs.Weigh.{weighOf, weighRows}
+use Rattle.load.specs.Code.Weigh.{rowsFrom}
 use Rattle.load.proofs.Row as T
 use Rattle.load.proofs.Row.Laws as T′
 use Rattle.load.proofs.Rows as S
@@ -63,7 +64,7 @@ use Rattle.load.proofs.weigh as weigh
 use Rattle.load.proofs.weigh.Symbol as weigh-def
 use Rattle.load.proofs.weigh.Symbol.{name as #weigh}
 use Rattle.load.proofs.weigh.Met as weigh-thm
-use Rattle.hand_set.specs.Gathered.{withRow}
+use Rattle.hand_set.specs.Code.Gathered.{withRow}
 use Rattle.hand_set.proofs.Calls.{Of, calls-plain}
 use Rattle.hand_set.proofs.Gathered.{rows-next, weigh-first}
 use Rattle.hand_set.proofs.places as places

@@ -5,7 +5,7 @@ use native.Mathlib.Nat.{le-refl}
 use native.Mathlib.Omega.{arith}
 use mathlib.Core.List.{List}
 use Rattle.task_set.specs.declared.Task.{Task}
-use Rattle.holding.specs.Code.{SearchedTo}
+use Rattle.holding.specs.Code.Search.{SearchedTo}
 use Rattle.holding.proofs.Searching.{searched-start, searched-larger, searched-longer}
 use Rattle.holding.proofs.begin_at.Statement.{statement}
 use Rattle.holding.proofs.begin_at.Tie as tie

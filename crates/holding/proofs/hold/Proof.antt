@@ -7,12 +7,12 @@ use native.Mathlib.Omega.{arith}
 use mathlib.Core.List.{List}
 use Rattle.least.proofs.Iterate.{Unsolved, step-unsolved, jump-unsolved, at-rest, past-limit}
 use Rattle.refusal.specs.Limits.{numberLimit}
-use Rattle.demand.specs.Demand.{demandFrom}
+use Rattle.demand.specs.Code.Demand.{demandFrom}
 use Rattle.task_set.specs.declared.Task.{Task}
-use Rattle.task_set.specs.ByColumn.{timesOf}
+use Rattle.task_set.specs.Code.ByColumn.{timesOf}
 use Rattle.task_set.proofs.Demand.{Separated}
 use Rattle.task_set.proofs.Times.{times-demand, times-fine, times-separated}
-use Rattle.holding.specs.Code.{holdUpTo}
+use Rattle.holding.specs.Code.Search.{holdUpTo}
 use Rattle.holding.proofs.Iteration.{holdNeed, need-mono, whole-fine, whole-jump}
 use Rattle.holding.proofs.Searching.{none-unsolved}
 use Rattle.holding.proofs.hold.Statement.{statement}

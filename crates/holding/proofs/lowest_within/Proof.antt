@@ -7,9 +7,9 @@ use mathlib.Core.Path.{_≡_, sym, _∙_}
 use mathlib.Core.List.{List}
 use lib.ListN.{length}
 use Rattle.task_set.specs.declared.Task.{Task}
-use Rattle.task_set.specs.ByColumn.{timesOf}
+use Rattle.task_set.specs.Code.ByColumn.{timesOf}
 use Rattle.task_set.proofs.Times.{times-length}
-use Rattle.holding.specs.Code.{SearchedTo}
+use Rattle.holding.specs.Code.Search.{SearchedTo}
 use Rattle.holding.proofs.Searching.{searched-next, searched-found, searched-held, searched-out}
 use Rattle.holding.proofs.lowest_within.Statement.{statement}
 use Rattle.holding.proofs.lowest_within.Tie as tie

@@ -9,7 +9,7 @@ use lib.Dec.{leb}
 use Rattle.refusal.specs.declared.Outcome.the-variants.{Done}
 use Rattle.candidates.specs.declared.Kept.{Kept}
 use Rattle.candidates.specs.Candidates.{keptAnswer}
-use Rattle.reader.proofs.Handed.{Handed, handed-refused, handed-done}
+use Rattle.reader.proofs.Handed.{handed-refused}
 use Rattle.reader.proofs.Fine.{handed-fine}
 use Rattle.answers.specs.Answers.{candidateList}
 use Rattle.inquiries.proofs.Named.{number-range}
@@ -39,8 +39,9 @@ given c = sym (c .before .is-part-number .ensures) ∙ c .if1 .taken
 range : (c : tie.Then1) → (1 ≤ c .before .before .before .before .before .before .args .part) × (c .before .before .before .before .before .before .args .part ≤ c .before .before .before .before .read-file .result .count)
 range c = number-range (c .before .before .before .before .before .before .args .part) (c .before .before .before .before .read-file .result .count) (given c)
 
-handed : (c : tie.Then1) → Handed (c .before .before .before .before .before .before .args .file .now) (c .before .before .before .before .read-file .result)
-handed c = handed-done (c .before .before .before .before .before .before .args .file .now) (c .before .before .before .before .read-file .result) (c .before .before .before .before .read-file .ensures) (c .before .before .enum-told .given .1)
+-- the file was read
+done : (c : tie.Then1) → c .before .before .before .before .read-file .result .outcome ≡ Done
+done c = c .before .before .enum-told .given .1
 
 sub-place : tie.Need-sub-place
 sub-place c = range c .0
@@ -54,7 +55,7 @@ element-copy-out-read c = omega (arith, range c .0, range c .1, c .before .befor
 kept-of-requires : tie.Need-kept-of-requires
 kept-of-requires c κs =
     let t = c .before in
-    let f = handed-fine (t .before .before .before .before .before .before .args .file .now) (t .before .before .before .before .read-file .result) (t .before .before .before .before .read-file .ensures) (handed t) (t .before .before .before .before .before .before .args .part - 1) _ (omega (arith, range t .0, range t .1)) in
+    let f = handed-fine (t .before .before .before .before .before .before .args .file .now) (t .before .before .before .before .read-file .result) (t .before .before .before .before .read-file .ensures) (done t) (t .before .before .before .before .before .before .args .part - 1) _ (omega (arith, range t .0, range t .1)) in
     (f .fine, f .period-some, omega (arith, f .period-most))
 
 refused-list-requires-2 : tie.Need-refused-list-requires-2
@@ -66,7 +67,7 @@ returns c =
     let t = c .before .before .before .before .before in
     let a = t .before .before .before .before .before .before .args in
     let f = t .before .before .before .before .read-file in
-    c .refused-list2 .ensures ∙ sym (ap candidateList (candidates-none (a .file .now) (a .part) (f .result) (handed t) (f .ensures) _ (given t) (range t .0) (range t .1) (sym (ap (λ (k : Kept). k .count) (c .before .before .before .kept-of .ensures)) ∙ c .before .if2 .taken)))
+    c .refused-list2 .ensures ∙ sym (ap candidateList (candidates-none (a .file .now) (a .part) (f .result) (f .ensures) (done t) _ (given t) (range t .0) (range t .1) (sym (ap (λ (k : Kept). k .count) (c .before .before .before .kept-of .ensures)) ∙ c .before .if2 .taken)))
 
 returns-2 : tie.Need-returns-2
 unfolding candidateList keptAnswer
@@ -76,7 +77,7 @@ returns-2 c =
     let f = t .before .before .before .before .read-file in
     let some = ap (λ (k : Kept). k .count) (c .before .before .kept-of .ensures) in
     let pos : 1 ≤ c .before .before .kept-of .result .count = let n = c .if2 .left in omega arith in
-    let e = candidates-given (a .file .now) (a .part) (f .result) (handed t) (f .ensures) _ (given t) (range t .0) (range t .1) (subst (λ (n : ℕ). 1 ≤ n) some pos) in
+    let e = candidates-given (a .file .now) (a .part) (f .result) (f .ensures) (done t) _ (given t) (range t .0) (range t .1) (subst (λ (n : ℕ). 1 ≤ n) some pos) in
     ap (λ (k : Kept). record { outcome = Done; kept = k }) (c .before .before .kept-of .ensures) ∙ sym (ap candidateList e)
 
 refused-list-requires-3 : tie.Need-refused-list-requires-3
@@ -95,8 +96,7 @@ unfolding candidateList keptAnswer
 returns-4 c =
     let a = c .before .before .before .before .before .before .before .args in
     let f = c .before .before .before .before .before .read-file in
-    let h = handed-done (a .file .now) (f .result) (f .ensures) (c .before .before .before .enum-told .given .1) in
-    c .refused-list3 .ensures ∙ sym (ap candidateList (candidates-not-given (a .file .now) (a .part) (f .result) h (sym (c .before .before .is-part-number .ensures) ∙ c .before .if1 .left)))
+    c .refused-list3 .ensures ∙ sym (ap candidateList (candidates-not-given (a .file .now) (a .part) (f .result) (f .ensures) (c .before .before .before .enum-told .given .1) (sym (c .before .before .is-part-number .ensures) ∙ c .before .if1 .left)))
 
 pub candidates-spec : {M : Type 1} → statement M
 candidates-spec =

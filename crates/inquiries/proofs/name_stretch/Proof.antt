@@ -3,7 +3,7 @@
 use mathlib.Core.Path.{sym, subst, _∙_}
 use native.Mathlib.Omega.{arith}
 use borrow.Author.Needs.{needs}
-use Rattle.reader.proofs.Handed.{handed-refused, handed-done}
+use Rattle.reader.proofs.Handed.{handed-refused}
 use Rattle.inquiries.specs.Stretch.{StretchIs}
 use Rattle.inquiries.proofs.Named.{name-refused, name-given, name-not-given, name-is, number-range, span-is, stretch-refused, stretch-given}
 use Rattle.inquiries.proofs.name_stretch.Statement.{statement}
@@ -38,10 +38,10 @@ returns c =
     let a = c .before .before .before .before .before .before .before .before .args in
     let f = c .before .before .before .before .before .before .read-file in
     let given = sym (c .before .before .before .is-part-number .ensures) ∙ c .before .before .if1 .taken in
-    let h = handed-done (a .file .now) (f .result) (f .ensures) (c .before .before .before .before .enum-told .given .1) in
+    let done = c .before .before .before .before .enum-told .given .1 in
     let most = number-range (a .part) (f .result .count) given in
-    stretch-given (a .file .now) (a .part) _ _ (name-given (a .file .now) (a .part) (f .result) h given) (name-is (a .file .now) (a .part) (f .result) h _ (most .0) (most .1))
-    (span-is (a .file .now) (f .result) (f .ensures) (c .before .before .before .before .enum-told .given .1) (a .part) _ (most .0) (most .1))
+    stretch-given (a .file .now) (a .part) _ _ (name-given (a .file .now) (a .part) (f .result) (f .ensures) done given) (name-is (a .file .now) (a .part) (f .result) (f .ensures) _ (most .0) (most .1))
+    (span-is (a .file .now) (f .result) (f .ensures) done (a .part) _ (most .0) (most .1))
 
 no-name-requires-2 : tie.Need-no-name-requires-2
 no-name-requires-2 c κs = search needs
@@ -58,9 +58,8 @@ returns-3 : tie.Need-returns-3
 returns-3 c =
     let a = c .before .before .before .before .before .before .before .args in
     let f = c .before .before .before .before .before .read-file in
-    let h = handed-done (a .file .now) (f .result) (f .ensures) (c .before .before .before .enum-told .given .1) in
     subst (StretchIs (a .file .now) (a .part)) (sym (c .no-name2 .ensures))
-    (stretch-refused (a .file .now) (a .part) _ (name-not-given (a .file .now) (a .part) (f .result) h (sym (c .before .before .is-part-number .ensures) ∙ c .before .if1 .left)))
+    (stretch-refused (a .file .now) (a .part) _ (name-not-given (a .file .now) (a .part) (f .result) (f .ensures) (c .before .before .before .enum-told .given .1) (sym (c .before .before .is-part-number .ensures) ∙ c .before .if1 .left)))
 
 pub name-stretch-spec : {M : Type 1} → statement M
 name-stretch-spec =

@@ -6,24 +6,25 @@ use lib.ListN.{length, getD}
 use native.Mathlib.Omega.{arith}
 use native.Mathlib.Nat.{zero-add}
 use Rattle.listing.specs.Listing.{ceilingLine}
-use Rattle.listing.specs.Shares.{ceilingLines}
+use Rattle.listing.specs.Code.Shares.{ceilingLines}
 use Rattle.listing.proofs.Ceilings.{stretch-length, locksFrom, lockAt, locks-end}
 use mathlib.Core.List.{List}
-use Rattle.plan_file.specs.Entries.{noSpan, namesOf}
+use Rattle.plan_file.specs.Stretches.{noSpan}
+use Rattle.plan_file.specs.Code.Entries.{namesOf}
 use Rattle.listing.proofs.Ceilings.{locks-more-length}
 use borrow.Author.Needs.{needs}
 use Rattle.listing.proofs.ceilings_length.Statement.{statement}
 use Rattle.listing.proofs.ceilings_length.Tie as tie
 
 abbrev Inv-loop : tie.InvT-loop
-Inv-loop file ceilings n span total₀ i₀ total i =
-    (n ≤ 8) × (n ≤ length span) × (n ≤ length ceilings) × (length span ≡ 16) × (i ≤ n)
+Inv-loop file ceilings first n span total₀ i₀ total i =
+    (n ≤ 8) × (n ≤ length span) × (first + n ≤ 128) × (length span ≡ 16) × (i ≤ n)
     × (length file ≤ 2 ^ 32)
     × (total ≤ i * 2 ^ 33)
-    × (total + length (ceilingLines (locksFrom file n span ceilings i)) ≡ length (ceilingLines (locksFrom file n span ceilings 0)))
+    × (total + length (ceilingLines (locksFrom file n span ceilings first i)) ≡ length (ceilingLines (locksFrom file n span ceilings first 0)))
 
 abbrev μ-loop : tie.MeasureT-loop
-μ-loop file ceilings n span total₀ i₀ total i = n - i
+μ-loop file ceilings first n span total₀ i₀ total i = n - i
 
 loop-holds : tie.Need-loop-holds Inv-loop μ-loop
 loop-holds c =
@@ -36,6 +37,9 @@ mul-lock c = search needs
 
 array-copy-out-lock : tie.Need-array-copy-out-lock Inv-loop μ-loop
 array-copy-out-lock c = search needs
+
+add-number : tie.Need-add-number Inv-loop μ-loop
+add-number c = search needs
 
 mul-number : tie.Need-mul-number Inv-loop μ-loop
 mul-number c = search needs
@@ -68,9 +72,9 @@ loop-again c =
     let i = l .inv in
     let s = a .file .now in
     let cs = a .ceilings .now in
-    let e : c .ceiling-length .result ≡ length (ceilingLine (lockAt s (a .locks .count) (a .locks .span) cs (l .i))) =
-    c .ceiling-length .ensures .0 ∙ ap (λ (w : List ℕ). length (ceilingLine (record { lock = w; number = getD cs (l .i) 0 }))) (c .before .bytes .ensures) in
-    let m = locks-more-length s (a .locks .count) (a .locks .span) cs (i .1) (i .2) (l .i) (omega arith) in
+    let e : c .ceiling-length .result ≡ length (ceilingLine (lockAt s (a .locks .count) (a .locks .span) cs (a .first) (l .i))) =
+    c .ceiling-length .ensures .0 ∙ ap (λ (w : List ℕ). length (ceilingLine (record { lock = w; number = getD cs (a .first + l .i) 0 }))) (c .before .bytes .ensures) in
+    let m = locks-more-length s (a .locks .count) (a .locks .span) cs (a .first) (i .1) (l .i) (omega arith) in
     (i .0, i .1, i .2, i .3, omega arith, i .5, omega (arith, i .6, c .ceiling-length .ensures .1), omega (arith, e, m, i .7))
 
 returns : tie.Need-returns Inv-loop μ-loop
@@ -79,8 +83,8 @@ returns c =
     let l = c .before .loop in
     let a = c .before .before .before .before .args in
     let i = l .inv in
-    let z = ap length (locks-end (a .file .now) (a .locks .count) (a .locks .span) (a .ceilings .now) (i .1) (i .2) (l .i) (omega arith)) in
-    let r : l .total ≡ length (ceilingLines (locksFrom (a .file .now) (a .locks .count) (a .locks .span) (a .ceilings .now) 0)) = omega (arith, i .7, z) in
+    let z = ap length (locks-end (a .file .now) (a .locks .count) (a .locks .span) (a .ceilings .now) (a .first) (i .1) (l .i) (omega arith)) in
+    let r : l .total ≡ length (ceilingLines (locksFrom (a .file .now) (a .locks .count) (a .locks .span) (a .ceilings .now) (a .first) 0)) = omega (arith, i .7, z) in
     (r, omega (arith, i .6))
 
 pub ceilings-length-spec : {M : Type 1} → statement M
@@ -92,6 +96,7 @@ ceilings-length-spec =
     loop-holds
     mul-lock
     array-copy-out-lock
+    add-number
     mul-number
     element-copy-out-number
     bytes-requires

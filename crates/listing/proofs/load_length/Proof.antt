@@ -6,7 +6,7 @@ use lib.ListN.{length}
 use native.Mathlib.Omega.{arith}
 use mathlib.Core.List.{List}
 use Rattle.listing.specs.Listing.{loadLine}
-use Rattle.listing.specs.Shares.{named}
+use Rattle.listing.specs.Code.Shares.{named}
 use Rattle.listing.proofs.Lines.{load-length}
 use Rattle.listing.proofs.Ceilings.{stretch-length}
 use borrow.Author.Needs.{needs}

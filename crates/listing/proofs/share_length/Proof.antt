@@ -5,8 +5,11 @@ use mathlib.Core.Path.{ap}
 use lib.ListN.{length}
 use native.Mathlib.Omega.{arith}
 use mathlib.Core.List.{List}
+use Rattle.stretch.specs.Stretch.{bytesOf}
+use Rattle.task_set.specs.Code.ByLock.{settingFrom}
+use Rattle.plan_file.specs.Code.Entries.{namesOf}
 use Rattle.listing.specs.Listing.{shareLine}
-use Rattle.listing.specs.Shares.{bare}
+use Rattle.listing.specs.Code.Shares.{bare}
 use Rattle.listing.proofs.Ceilings.{stretch-length, share-lines-length}
 use borrow.Author.Needs.{needs}
 use Rattle.listing.proofs.share_length.Statement.{statement}
@@ -32,7 +35,7 @@ returns c =
     let b = l .before in
     let a = b .before .before .args in
     let n = ap (λ (w : List ℕ). length (shareLine (bare w (a .row) (a .bound)))) (b .bytes .ensures) in
-    let e = share-lines-length (a .file .now) (a .name) (a .row) (a .bound) (a .locks) (a .ceilings .now) in
+    let e = share-lines-length (bytesOf (a .file .now) (a .name)) (namesOf (a .file .now) (a .locks)) (settingFrom (a .ceilings .now) (a .first)) (a .row) (a .bound) in
     (omega (arith, e, n, l .share-line-length .ensures .0, c .ceilings-length .ensures .0), omega (arith, l .share-line-length .ensures .1, c .ceilings-length .ensures .1))
 
 pub share-length-spec : {M : Type 1} → statement M

@@ -6,7 +6,7 @@ use Rattle.text.specs.Bytes.{bytes}
 use Rattle.text.specs.Decimal.{digitsOf}
 use Rattle.writer.proofs.Written.{Left, left-start, left-as, left-room, left-more, left-last}
 use Rattle.listing.specs.Listing.{ceilingLine}
-use Rattle.listing.specs.Shares.{headOf}
+use Rattle.listing.specs.Code.Shares.{headOf}
 use Rattle.listing.proofs.Lines.{closed, ceiling-pieces}
 use borrow.Author.Needs.{needs}
 use Rattle.listing.proofs.write_ceiling.Statement.{statement}

@@ -5,33 +5,34 @@ use mathlib.Core.Path.{_≡_, sym, ap, _∙_}
 use lib.ListN.{length, getD}
 use native.Mathlib.Omega.{arith}
 use mathlib.Core.List.{List, _++_}
-use Rattle.plan_file.specs.Entries.{namesOf}
+use Rattle.task_set.specs.Code.ByLock.{settingFrom}
+use Rattle.plan_file.specs.Code.Entries.{namesOf}
 use Rattle.writer.proofs.Written.{Left, left-start, left-as, left-room, left-more, left-none}
-use Rattle.listing.specs.Listing.{ceilingLine}
-use Rattle.listing.specs.Shares.{ceilingsOf, ceilingLines}
+use Rattle.listing.specs.Listing.{ceilingsUnder, ceilingLine}
+use Rattle.listing.specs.Code.Shares.{ceilingLines}
 use Rattle.listing.proofs.Ceilings.{locksFrom, locks-more, locks-end}
 use borrow.Author.Needs.{needs}
 use Rattle.listing.proofs.write_ceilings.Statement.{statement}
 use Rattle.listing.proofs.write_ceilings.Tie as tie
 
 abbrev Inv-loop : tie.InvT-loop
-Inv-loop file ceilings out₀ at n span next₀ i₀ out next i =
-    (n ≤ 8) × (n ≤ length span) × (n ≤ length ceilings) × (length span ≡ 16) × (i ≤ n)
-    × Left at (ceilingLines (locksFrom file n span ceilings 0)) out₀ next (ceilingLines (locksFrom file n span ceilings i)) out
+Inv-loop file ceilings first out₀ at n span next₀ i₀ out next i =
+    (n ≤ 8) × (n ≤ length span) × (first + n ≤ 128) × (length span ≡ 16) × (i ≤ n)
+    × Left at (ceilingLines (locksFrom file n span ceilings first 0)) out₀ next (ceilingLines (locksFrom file n span ceilings first i)) out
 
 abbrev μ-loop : tie.MeasureT-loop
-μ-loop file ceilings out₀ at n span next₀ i₀ out next i = n - i
+μ-loop file ceilings first out₀ at n span next₀ i₀ out next i = n - i
 
 -- the lines from the lock i on
 abbrev linesFrom : tie.Start Inv-loop μ-loop → ℕ → List ℕ
-linesFrom s i = ceilingLines (locksFrom (s .args .file .now) (s .args .locks .count) (s .args .locks .span) (s .args .ceilings .now) i)
+linesFrom s i = ceilingLines (locksFrom (s .args .file .now) (s .args .locks .count) (s .args .locks .span) (s .args .ceilings .now) (s .args .first) i)
 
 -- the line of the lock i is the first of what is left
 cut : (c : tie.After-bytes Inv-loop μ-loop) →
     let l = c .before .before .before .before .before .loop in
     let s = c .before .before .before .before .before .before .before .before .before in
     Left (s .args .at) (linesFrom s 0) (s .args .out .now) (l .next)
-    (ceilingLine (record { lock = c .bytes .result .now; number = getD (s .args .ceilings .now) (l .i) 0 }) ++ linesFrom s (l .i + 1))
+    (ceilingLine (record { lock = c .bytes .result .now; number = getD (s .args .ceilings .now) (s .args .first + l .i) 0 }) ++ linesFrom s (l .i + 1))
     (l .out)
 cut c =
     let l = c .before .before .before .before .before .loop in
@@ -39,8 +40,8 @@ cut c =
     let a = s .args in
     let i = l .inv in
     left-as
-    (locks-more (a .file .now) (a .locks .count) (a .locks .span) (a .ceilings .now) (i .1) (i .2) (l .i) (omega arith)
-    ∙ ap (λ (w : List ℕ). ceilingLine (record { lock = w; number = getD (a .ceilings .now) (l .i) 0 }) ++ linesFrom s (l .i + 1)) (sym (c .bytes .ensures)))
+    (locks-more (a .file .now) (a .locks .count) (a .locks .span) (a .ceilings .now) (a .first) (i .1) (l .i) (omega arith)
+    ∙ ap (λ (w : List ℕ). ceilingLine (record { lock = w; number = getD (a .ceilings .now) (a .first + l .i) 0 }) ++ linesFrom s (l .i + 1)) (sym (c .bytes .ensures)))
     (i .5)
 
 loop-holds : tie.Need-loop-holds Inv-loop μ-loop
@@ -49,13 +50,16 @@ loop-holds c =
     let s = c .before .before .before in
     let a = s .args in
     let f = s .pre .0 in
-    (f .few, omega (arith, f .few, f .names .room), f .room, f .names .room, omega arith, left-start (a .at) (ceilingLines (ceilingsOf (namesOf (a .file .now) (a .locks)) (a .ceilings .now))) (a .out .now) (s .pre .1))
+    (f .few, omega (arith, f .few, f .names .room), f .room, f .names .room, omega arith, left-start (a .at) (ceilingLines (ceilingsUnder (settingFrom (a .ceilings .now) (a .first)) 1 (namesOf (a .file .now) (a .locks)))) (a .out .now) (s .pre .1))
 
 mul-lock : tie.Need-mul-lock Inv-loop μ-loop
 mul-lock c = search needs
 
 array-copy-out-lock : tie.Need-array-copy-out-lock Inv-loop μ-loop
 array-copy-out-lock c = search needs
+
+add-number : tie.Need-add-number Inv-loop μ-loop
+add-number c = search needs
 
 mul-number : tie.Need-mul-number Inv-loop μ-loop
 mul-number c = search needs
@@ -70,7 +74,7 @@ write-ceiling-requires : tie.Need-write-ceiling-requires Inv-loop μ-loop
 write-ceiling-requires c κs =
     let l = c .before .before .before .before .before .loop in
     let s = c .before .before .before .before .before .before .before .before .before in
-    left-room (ceilingLine (record { lock = c .bytes .result .now; number = getD (s .args .ceilings .now) (l .i) 0 }))
+    left-room (ceilingLine (record { lock = c .bytes .result .now; number = getD (s .args .ceilings .now) (s .args .first + l .i) 0 }))
     (linesFrom s (l .i + 1))
     (cut c)
 
@@ -91,7 +95,7 @@ loop-again c =
       i .2,
       i .3,
       omega arith,
-      left-more (ceilingLine (record { lock = w .before .bytes .result .now; number = getD (s .args .ceilings .now) (l .i) 0 }))
+      left-more (ceilingLine (record { lock = w .before .bytes .result .now; number = getD (s .args .ceilings .now) (s .args .first + l .i) 0 }))
           (linesFrom s (l .i + 1))
           (cut (w .before))
           (w .write-ceiling .ensures),
@@ -106,7 +110,7 @@ returns c =
     let l = c .before .loop in
     let a = c .before .before .before .before .before .args in
     let i = l .inv in
-    left-none (left-as (locks-end (a .file .now) (a .locks .count) (a .locks .span) (a .ceilings .now) (i .1) (i .2) (l .i) (omega arith)) (i .5))
+    left-none (left-as (locks-end (a .file .now) (a .locks .count) (a .locks .span) (a .ceilings .now) (a .first) (i .1) (l .i) (omega arith)) (i .5))
 
 pub write-ceilings-spec : {M : Type 1} → statement M
 write-ceilings-spec =
@@ -117,6 +121,7 @@ write-ceilings-spec =
     loop-holds
     mul-lock
     array-copy-out-lock
+    add-number
     mul-number
     element-copy-out-number
     bytes-requires

@@ -3,7 +3,7 @@
 use Prim.Native.Nat.{ℕ}
 use mathlib.Core.List.{List, _++_}
 use Rattle.writer.proofs.Written.{Left, left-start, left-room, left-more, left-last}
-use Rattle.listing.specs.Shares.{headOf}
+use Rattle.listing.specs.Code.Shares.{headOf}
 use Rattle.listing.proofs.Lines.{closed}
 use borrow.Author.Needs.{needs}
 use Rattle.listing.proofs.write_head.Statement.{statement}

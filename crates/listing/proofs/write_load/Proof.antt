@@ -7,7 +7,7 @@ use Rattle.text.specs.Bytes.{bytes}
 use Rattle.stretch.specs.Stretch.{bytesOf}
 use Rattle.writer.proofs.Written.{Left, left-start, left-as, left-room, left-more, left-last}
 use Rattle.listing.specs.Listing.{loadLine}
-use Rattle.listing.specs.Shares.{headOf, named}
+use Rattle.listing.specs.Code.Shares.{headOf, named}
 use Rattle.listing.proofs.Lines.{boundEnd, load-pieces}
 use borrow.Author.Needs.{needs}
 use Rattle.listing.proofs.write_load.Statement.{statement}

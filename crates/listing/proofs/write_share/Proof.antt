@@ -3,20 +3,22 @@
 use Prim.Native.Nat.{ℕ}
 use mathlib.Core.Path.{sym, ap, _∙_}
 use mathlib.Core.List.{List, _++_}
-use Rattle.plan_file.specs.Entries.{namesOf}
+use Rattle.stretch.specs.Stretch.{bytesOf}
+use Rattle.task_set.specs.Code.ByLock.{settingFrom}
+use Rattle.plan_file.specs.Code.Entries.{namesOf}
 use Rattle.writer.proofs.Written.{Left, left-start, left-as, left-room, left-more, left-last}
-use Rattle.listing.specs.Listing.{shareLine, shareLines}
-use Rattle.listing.specs.Shares.{bare, ceilingsOf, ceilingLines, shareFrom}
+use Rattle.listing.specs.Listing.{ceilingsUnder, shareUnder, shareLine, shareLines}
+use Rattle.listing.specs.Code.Shares.{bare, ceilingLines}
 use Rattle.listing.proofs.Ceilings.{share-lines-pieces}
 use borrow.Author.Needs.{needs}
 use Rattle.listing.proofs.write_share.Statement.{statement}
 use Rattle.listing.proofs.write_share.Tie as tie
 
 abbrev whole : tie.Start → List ℕ
-whole s = let a = s .args in shareLines (shareFrom (a .file .now) (a .name) (a .row) (a .bound) (a .locks) (a .ceilings .now))
+whole s = let a = s .args in shareLines (shareUnder (bytesOf (a .file .now) (a .name)) (namesOf (a .file .now) (a .locks)) (settingFrom (a .ceilings .now) (a .first)) (a .row) (a .bound))
 
 abbrev locksOf : tie.Start → List ℕ
-locksOf s = let a = s .args in ceilingLines (ceilingsOf (namesOf (a .file .now) (a .locks)) (a .ceilings .now))
+locksOf s = let a = s .args in ceilingLines (ceilingsUnder (settingFrom (a .ceilings .now) (a .first)) 1 (namesOf (a .file .now) (a .locks)))
 
 start : (c : tie.After-bytes) →
     let s = c .before .before .before .before in
@@ -25,7 +27,7 @@ start c =
     let s = c .before .before .before .before in
     let a = s .args in
     left-as
-    (share-lines-pieces (a .file .now) (a .name) (a .row) (a .bound) (a .locks) (a .ceilings .now)
+    (share-lines-pieces (bytesOf (a .file .now) (a .name)) (namesOf (a .file .now) (a .locks)) (settingFrom (a .ceilings .now) (a .first)) (a .row) (a .bound)
     ∙ ap (λ (w : List ℕ). shareLine (bare w (a .row) (a .bound)) ++ locksOf s) (sym (c .bytes .ensures)))
     (left-start (a .at) (whole s) (a .out .now) (s .pre .1))
 

@@ -6,7 +6,7 @@ use Rattle.text.specs.Bytes.{bytes}
 use Rattle.text.specs.Decimal.{digitsOf}
 use Rattle.writer.proofs.Written.{Left, left-start, left-as, left-room, left-more, left-last}
 use Rattle.listing.specs.Listing.{shareLine}
-use Rattle.listing.specs.Shares.{headOf, bare}
+use Rattle.listing.specs.Code.Shares.{headOf, bare}
 use Rattle.listing.proofs.Lines.{closed, boundEnd, rowEnd, share-pieces}
 use borrow.Author.Needs.{needs}
 use Rattle.listing.proofs.write_share_line.Statement.{statement}

@@ -9,8 +9,8 @@ use lib.Seq.{take-all}
 use Rattle.least.specs.Lists.{pad}
 use Rattle.refusal.specs.Limits.{numberLimit}
 use Rattle.load.specs.Load.{boundsOf}
-use Rattle.load.specs.ByColumn.{rowsBy}
-use Rattle.load.specs.Code.{noFrac}
+use Rattle.load.specs.Code.ByColumn.{rowsBy}
+use Rattle.load.specs.Code.Rows.{noFrac}
 use Rattle.load.proofs.Load.{boundsOf-length}
 use Rattle.load.proofs.RowsBy.{rows-length, blockingAt, blocking-none, blocking-next, bounds-start, bounds-next}
 use Rattle.load.proofs.bounds_of.Statement.{statement}

@@ -8,7 +8,7 @@ use lib.ListN.{getD}
 use Rattle.least.proofs.Fill.{Filled, fill-start, fill-step}
 use Rattle.load.specs.declared.Rows.{Rows}
 use Rattle.load.specs.Load.{rowSum}
-use Rattle.load.specs.Code.{noRow}
+use Rattle.load.specs.Code.Rows.{noRow}
 use Rattle.load.proofs.columns_of.Statement.{statement}
 use Rattle.load.proofs.columns_of.Tie as tie
 

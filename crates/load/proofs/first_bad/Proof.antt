@@ -8,7 +8,7 @@ use mathlib.Core.Bool.{not}
 use borrow.Author.Needs.{needs}
 use Rattle.least.proofs.First.{NoneBefore, none-more, first-in, first-in-none}
 use Rattle.load.specs.Weigh.{rowInRange, rowsOf}
-use Rattle.load.specs.Code.{noRow}
+use Rattle.load.specs.Code.Rows.{noRow}
 use Rattle.load.proofs.first_bad.Statement.{statement}
 use Rattle.load.proofs.first_bad.Tie as tie
 

@@ -9,7 +9,7 @@ use mathlib.Core.Path.{sym, ap, _∙_}
 use mathlib.Core.Bool.{not}
 use Rattle.least.proofs.First.{NoneBefore, none-more, first-in, first-in-none}
 use Rattle.load.specs.Weigh.{hasTime}
-use Rattle.load.specs.Code.{noFrac}
+use Rattle.load.specs.Code.Rows.{noFrac}
 use Rattle.load.proofs.first_late.Statement.{statement}
 use Rattle.load.proofs.first_late.Tie as tie
 

@@ -4,7 +4,7 @@ use Prim.Native.Nat.{_+_, _-_, _*_, _/_, _≤_}
 use native.Mathlib.Nat.{mul-le-mul-right, div-mul-le-self}
 use native.Mathlib.Omega.{arith}
 use Rattle.refusal.specs.Limits.{numberLimit}
-use Rattle.load.specs.ByColumn.{LowerIs}
+use Rattle.load.specs.Code.ByColumn.{LowerIs}
 use Rattle.load.proofs.BoundBy.{lower-same, lower-next, lower-within}
 use Rattle.load.proofs.further.Statement.{statement}
 use Rattle.load.proofs.further.Tie as tie

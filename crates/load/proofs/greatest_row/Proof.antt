@@ -8,7 +8,7 @@ use mathlib.Core.Path.{_≡_, sym, _∙_}
 use lib.ListN.{take, getD}
 use Rattle.least.proofs.Fraction.{Ok, less-true, less-false, Leads, leads-start, leads-on, leads-over, leads-in}
 use Rattle.least.proofs.First.{first-greatest}
-use Rattle.load.specs.Code.{noFrac}
+use Rattle.load.specs.Code.Rows.{noFrac}
 use Rattle.load.proofs.greatest_row.Statement.{statement}
 use Rattle.load.proofs.greatest_row.Tie as tie
 

@@ -6,7 +6,7 @@ use native.Mathlib.Omega.{arith}
 use lib.ListN.{getD}
 use Rattle.least.specs.Fraction.{frac}
 use Rattle.refusal.specs.Limits.{numberLimit}
-use Rattle.load.specs.ByColumn.{LowerIs}
+use Rattle.load.specs.Code.ByColumn.{LowerIs}
 use Rattle.load.proofs.BoundBy.{lower-next, lower-within}
 use Rattle.load.proofs.likely.Statement.{statement}
 use Rattle.load.proofs.likely.Tie as tie

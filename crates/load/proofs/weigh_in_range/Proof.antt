@@ -14,7 +14,7 @@ use Rattle.load.specs.declared.Row.{Row}
 use Rattle.load.specs.declared.Rows.{Rows}
 use Rattle.load.specs.Load.{boundsOf, loadOf, loadRow}
 use Rattle.load.specs.Weigh.{hasTime, rowsOf}
-use Rattle.load.specs.Code.{noFrac}
+use Rattle.load.specs.Code.Rows.{noFrac}
 use Rattle.load.proofs.InRange.{in-range-fine, columns-fine, columns-rows}
 use Rattle.load.proofs.Weighing.{weigh-late, weigh-answer, bounds-take, bounds-fine, load-place}
 use Rattle.load.proofs.weigh_in_range.Statement.{statement}

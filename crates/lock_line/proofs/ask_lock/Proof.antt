@@ -5,7 +5,7 @@ use mathlib.Core.Path.{_≡_, refl}
 use mathlib.Core.Bool.{false}
 use borrow.Author.Tests.{not-true, not-false}
 use Rattle.stretch.specs.Stretch.{bytesOf}
-use Rattle.plan_file.specs.Entries.{useAt}
+use Rattle.plan_file.specs.Code.Entries.{useAt}
 use Rattle.plan_file.proofs.Asking.{NumberIs, number-is, number-malformed, Named, named-by-tests, lock-misplaced, lock-misnamed, lock-known, lock-misnumbered, lock-held-over-cost, lock-too-many, lock-enters}
 use borrow.Author.Needs.{needs}
 use Rattle.lock_line.proofs.ask_lock.Statement.{statement}

@@ -3,7 +3,7 @@
 use mathlib.Core.Path.{_≡_, refl, sym, _∙_}
 use lib.ListN.{length, length-map, List·getD-eq-default}
 use native.Mathlib.Omega.{arith}
-use Rattle.plan_file.specs.Entries.{useAt}
+use Rattle.plan_file.specs.Code.Entries.{useAt}
 use borrow.Author.Needs.{needs}
 use Rattle.lock_line.proofs.use_at.Statement.{statement}
 use Rattle.lock_line.proofs.use_at.Tie as tie

@@ -6,7 +6,7 @@ use native.Mathlib.Decide.{ℕ-discrete}
 use borrow.Author.Tests.{not-true, not-false}
 use mathlib.Core.Path.{_≡_, sym, _∙_}
 use lib.ListN.{length}
-use Rattle.offers.specs.Gathered.{listIn}
+use Rattle.offers.specs.Code.Gathered.{listIn}
 use Rattle.offers.proofs.Over.{pair-some, pair-none}
 use Rattle.offers.proofs.first_missing.Statement.{statement}
 use Rattle.offers.proofs.first_missing.Tie as tie

@@ -1,30 +1,27 @@
 -- `offers::offers_of` meets its contract: each turn gathers the kept list of one part.
 -- Assumes nothing.
-use Prim.Native.Nat.{ℕ, _+_, _-_, _≤_}
-use native.Mathlib.Numerals.{add-one}
+use Prim.Native.Nat.{ℕ, _-_}
 use native.Mathlib.Omega.{arith}
 use borrow.Author.Needs.{needs}
 use mathlib.Core.Path.{_≡_, refl, sym, ap, _∙_}
-use mathlib.Core.Bool.{false, false≢true}
 use lib.ListN.{length, length-replicate}
-use Rattle.envelope.specs.Envelope.{slopeScale}
+use Rattle.refusal.specs.Code.Limits.{offerPlaces}
 use Rattle.candidates.specs.declared.Kept.{Kept}
 use Rattle.candidates.specs.Candidates.{keptAnswer}
-use Rattle.offers.specs.Gathered.{listIn}
-use Rattle.offers.proofs.Over.{sharesFrom, shares-next, over-at}
+use Rattle.offers.specs.Code.Gathered.{listIn}
 use Rattle.offers.proofs.Gathering.{list-most, GatheredTo, gather-start, gather-step}
 use Rattle.offers.proofs.offers_of.Statement.{statement}
 use Rattle.offers.proofs.offers_of.Tie as tie
 
 abbrev Inv-loop : tie.InvT-loop
-Inv-loop f periods₀ counts₀ budgets₀ holdings₀ missing₀ over₀ share₀ k₀ periods counts budgets holdings missing over share k =
-    GatheredTo f periods counts budgets holdings k × (length budgets ≡ 1936) × (length holdings ≡ 1936) × (missing ≡ 0) × (over ≡ false) × (share + sharesFrom f k ≡ sharesFrom f 0) × (share ≤ slopeScale)
+Inv-loop f periods₀ counts₀ budgets₀ holdings₀ missing₀ k₀ periods counts budgets holdings missing k =
+    GatheredTo f periods counts budgets holdings k × (length budgets ≡ offerPlaces) × (length holdings ≡ offerPlaces) × (missing ≡ 0)
 
 abbrev μ-loop : tie.MeasureT-loop
-μ-loop f periods₀ counts₀ budgets₀ holdings₀ missing₀ over₀ share₀ k₀ periods counts budgets holdings missing over share k = f .count - k
+μ-loop f periods₀ counts₀ budgets₀ holdings₀ missing₀ k₀ periods counts budgets holdings missing k = f .count - k
 
 loop-holds : tie.Need-loop-holds Inv-loop μ-loop
-loop-holds c = (gather-start (c .args .t1) (c .pre) _ _ _ _ (length-replicate {A = ℕ} 16 0) (length-replicate {A = ℕ} 16 0), length-replicate {A = ℕ} 1936 0, length-replicate {A = ℕ} 1936 0, refl, refl, omega arith, omega arith)
+loop-holds c = (gather-start (c .args .t1) (c .pre) _ _ _ _ (length-replicate {A = ℕ} 16 0) (length-replicate {A = ℕ} 16 0), length-replicate {A = ℕ} offerPlaces 0, length-replicate {A = ℕ} offerPlaces 0, refl)
 
 mul-p : tie.Need-mul-p Inv-loop μ-loop
 mul-p c = omega (arith, c .before .before .pre .few)
@@ -32,26 +29,20 @@ mul-p c = omega (arith, c .before .before .pre .few)
 element-copy-out-p : tie.Need-element-copy-out-p Inv-loop μ-loop
 element-copy-out-p c = omega (arith, c .before .before .pre .few)
 
-share-of-requires : tie.Need-share-of-requires Inv-loop μ-loop
-share-of-requires c κs = c .before .before .before .before .pre .fine (c .before .before .before .loop .k) (c .before .before .loop-test .taken)
-
-add-share : tie.Need-add-share Inv-loop μ-loop
-add-share c = omega (arith, c .share-of .ensures .most, c .before .before .before .before .loop .inv .6)
-
 kept-of-requires : tie.Need-kept-of-requires Inv-loop μ-loop
 kept-of-requires c κs =
-    let s = c .before .before .before .before .before .before in
-    let at = c .before .before .before .before .before .loop in
-    let l = c .before .before .before .before .loop-test .taken in
+    let s = c .before .before .before .before in
+    let at = c .before .before .before .loop in
+    let l = c .before .before .loop-test .taken in
     (s .pre .fine (at .k) l, s .pre .period-some (at .k) l, s .pre .period-most (at .k) l)
 
 -- the count is that of the kept list
-count : (c : tie.After-kept-of Inv-loop μ-loop) → c .kept-of .result .count ≡ length (listIn (c .before .before .before .before .before .before .before .args .t1) (c .before .before .before .before .before .before .loop .k))
+count : (c : tie.After-kept-of Inv-loop μ-loop) → c .kept-of .result .count ≡ length (listIn (c .before .before .before .before .before .args .t1) (c .before .before .before .before .loop .k))
 unfolding keptAnswer
 count c = ap (λ (x : Kept). x .count) (c .kept-of .ensures)
 
 add-missing : tie.Need-add-missing Inv-loop μ-loop
-add-missing c = omega (arith, c .before .before .before .before .before .before .before .before .pre .few, c .before .before .before .before .before .before .before .loop .inv .0 .most)
+add-missing c = omega (arith, c .before .before .before .before .before .before .pre .few, c .before .before .before .before .before .loop .inv .0 .most)
 
 slice-aggregate-store : tie.Need-slice-aggregate-store Inv-loop μ-loop
 slice-aggregate-store c = search needs
@@ -61,47 +52,44 @@ slice-aggregate-store-2 c = search needs
 
 store-requires : tie.Need-store-requires Inv-loop μ-loop
 store-requires c κs =
-    let s = c .before .before .before .before .before .before .before .before .before .before in
-    let at = c .before .before .before .before .before .before .before .before .before .loop in
-    let l = c .before .before .before .before .before .before .before .before .loop-test .taken in
+    let s = c .before .before .before .before .before .before .before .before in
+    let at = c .before .before .before .before .before .before .before .loop in
+    let l = c .before .before .before .before .before .before .loop-test .taken in
     (omega (arith, s .pre .few), omega (arith, count (c .before .before .before), list-most (s .args .t1) (s .pre) (at .k) l), at .inv .1, at .inv .2)
 
 mul-periods : tie.Need-mul-periods Inv-loop μ-loop
-mul-periods c = omega (arith, c .before .before .before .before .before .before .before .before .before .before .before .before .before .pre .few, c .before .before .before .before .before .before .before .before .before .before .before .loop-test .taken)
+mul-periods c = omega (arith, c .before .before .before .before .before .before .before .before .before .before .before .pre .few, c .before .before .before .before .before .before .before .before .before .loop-test .taken)
 
 array-write-periods : tie.Need-array-write-periods Inv-loop μ-loop
-array-write-periods c = omega (arith, c .before .before .before .before .before .before .before .before .before .before .before .before .before .pre .few, c .before .before .before .before .before .before .before .before .before .before .before .loop-test .taken)
+array-write-periods c = omega (arith, c .before .before .before .before .before .before .before .before .before .before .before .pre .few, c .before .before .before .before .before .before .before .before .before .loop-test .taken)
 
 mul-counts : tie.Need-mul-counts Inv-loop μ-loop
-mul-counts c = omega (arith, c .before .before .before .before .before .before .before .before .before .before .before .before .before .pre .few, c .before .before .before .before .before .before .before .before .before .before .before .loop-test .taken)
+mul-counts c = omega (arith, c .before .before .before .before .before .before .before .before .before .before .before .pre .few, c .before .before .before .before .before .before .before .before .before .loop-test .taken)
 
 array-write-counts : tie.Need-array-write-counts Inv-loop μ-loop
-array-write-counts c = omega (arith, c .before .before .before .before .before .before .before .before .before .before .before .before .before .pre .few, c .before .before .before .before .before .before .before .before .before .before .before .loop-test .taken)
+array-write-counts c = omega (arith, c .before .before .before .before .before .before .before .before .before .before .before .pre .few, c .before .before .before .before .before .before .before .before .before .loop-test .taken)
 
 add-k : tie.Need-add-k Inv-loop μ-loop
-add-k c = omega (arith, c .before .before .before .before .before .before .before .before .before .before .before .before .before .pre .few, c .before .before .before .before .before .before .before .before .before .before .before .loop-test .taken)
+add-k c = omega (arith, c .before .before .before .before .before .before .before .before .before .before .before .pre .few, c .before .before .before .before .before .before .before .before .before .loop-test .taken)
 
 loop-less : tie.Need-loop-less Inv-loop μ-loop
-loop-less c = let l = c .before .before .before .before .before .before .before .before .before .before .before .loop-test .taken in omega arith
+loop-less c = let l = c .before .before .before .before .before .before .before .before .before .loop-test .taken in omega arith
 
 loop-again : tie.Need-loop-again Inv-loop μ-loop
 loop-again c =
-    let s = c .before .before .before .before .before .before .before .before .before .before .before .before .before in
-    let at = c .before .before .before .before .before .before .before .before .before .before .before .before .loop in
+    let s = c .before .before .before .before .before .before .before .before .before .before .before in
+    let at = c .before .before .before .before .before .before .before .before .before .before .loop in
     let kept = c .before .before .before .before .before .before .kept-of in
     let stored = c .before .before .store .ensures in
-    let shared = c .before .before .before .before .before .before .before .before in
-    let taken = c .before .before .before .before .before .before .before .before .before .before .before .loop-test .taken in
-    (gather-step (s .args .t1) (s .pre) (at .periods) (at .counts) (at .budgets) (at .holdings) _ _ (at .k) (kept .result) (at .inv .0) (c .before .before .before .before .before .before .before .before .before .before .before .loop-test .taken) (kept .ensures) (let n = c .before .before .before .before .before .if2 .left in let m = count (c .before .before .before .before .before .before) in omega arith) (stored .0) (stored .1), stored .0 .room ∙ at .inv .1, stored .1 .room ∙ at .inv .2, at .inv .3, at .inv .4, rw add-one (omega (arith, at .inv .5, shares-next (s .args .t1) (at .k) taken, shared .share-of .ensures .value)), omega (arith, c .before .before .before .before .before .before .before .if1 .left))
+    (gather-step (s .args .t1) (s .pre) (at .periods) (at .counts) (at .budgets) (at .holdings) _ _ (at .k) (kept .result) (at .inv .0) (c .before .before .before .before .before .before .before .before .before .loop-test .taken) (kept .ensures) (let n = c .before .before .before .before .before .if1 .left in let m = count (c .before .before .before .before .before .before) in omega arith) (stored .0) (stored .1), stored .0 .room ∙ at .inv .1, stored .1 .room ∙ at .inv .2, at .inv .3)
 
 returns : tie.Need-returns Inv-loop μ-loop
 returns c =
     let at = c .before .loop in
     let z = at .inv .3 in
     record {
-      over-is = λ e. absurd (false≢true (sym (at .inv .4) ∙ e));
-      all = λ _ e k h. at .inv .0 .each k (omega arith);
-      first = λ _. record {
+      all = λ e k h. at .inv .0 .each k (omega arith);
+      first = record {
         all = λ e k h. at .inv .0 .each k (omega arith) .some;
         within = omega arith;
         before = λ k h. absurd (omega arith);
@@ -111,26 +99,15 @@ returns c =
 
 returns-2 : tie.Need-returns-2 Inv-loop μ-loop
 returns-2 c =
-    let s = c .before .before .before .before .before .before in
     let at = c .before .before .before .before .before .loop in
-    record {
-      over-is = λ e. over-at (s .args .t1) (at .share) (at .k) (c .before .share-of .result) (at .inv .5) (c .before .before .before .before .loop-test .taken) (c .before .share-of .ensures .value) (omega (arith, c .if1 .taken));
-      all = λ e. absurd (false≢true (sym e));
-      first = λ e. absurd (false≢true (sym e));
-    }
-
-returns-3 : tie.Need-returns-3 Inv-loop μ-loop
-returns-3 c =
-    let at = c .before .before .before .before .before .before .before .loop in
     let n = count (c .before) in
     record {
-      over-is = λ e. absurd (false≢true (sym (at .inv .4) ∙ e));
-      all = λ _ e. absurd (omega arith);
-      first = λ _. record {
+      all = λ e. absurd (omega arith);
+      first = record {
         all = λ e. absurd (omega arith);
-        within = let l = c .before .before .before .before .before .before .loop-test .taken in omega arith;
+        within = let l = c .before .before .before .before .loop-test .taken in omega arith;
         before = λ j h. at .inv .0 .each j (omega arith) .some;
-        none = λ j e. let same : j ≡ at .k = omega arith in rw same (sym n ∙ c .if2 .taken);
+        none = λ j e. let same : j ≡ at .k = omega arith in rw same (sym n ∙ c .if1 .taken);
       };
     }
 
@@ -143,8 +120,6 @@ offers-of-spec =
     loop-holds
     mul-p
     element-copy-out-p
-    share-of-requires
-    add-share
     kept-of-requires
     add-missing
     slice-aggregate-store
@@ -158,5 +133,4 @@ offers-of-spec =
     loop-less
     loop-again
     returns
-    returns-2
-    returns-3)
+    returns-2)

@@ -3,7 +3,7 @@
 use native.Mathlib.Omega.{arith}
 use borrow.Author.Needs.{needs}
 use mathlib.Core.Path.{_≡_, subst, _∙_}
-use Rattle.offers.specs.Gathered.{MissingIs}
+use Rattle.offers.specs.Code.Gathered.{MissingIs}
 use Rattle.offers.proofs.Choosing.{missing-refused, over-refused}
 use Rattle.offers.proofs.over_rows.Statement.{statement}
 use Rattle.offers.proofs.over_rows.Tie as tie
@@ -17,7 +17,7 @@ no-rows-requires c κs = search needs
 returns : tie.Need-returns
 returns c =
     let m = c .before .before in
-    c .no-rows .ensures ∙ missing-refused (m .before .args .f) (m .first-missing .result) (m .first-missing .ensures) (omega arith)
+    c .no-rows .ensures ∙ missing-refused (m .before .args .f) (m .before .pre .0) (m .first-missing .result) (m .first-missing .ensures) (omega arith)
 
 no-rows-requires-2 : tie.Need-no-rows-requires-2
 no-rows-requires-2 c κs = search needs

@@ -6,7 +6,7 @@ use mathlib.Core.Path.{_≡_}
 use lib.ListN.{take}
 use Rattle.least.specs.Lists.{pad}
 use Rattle.load.specs.Load.{row}
-use Rattle.load.specs.ByColumn.{rowsBy}
+use Rattle.load.specs.Code.ByColumn.{rowsBy}
 use Rattle.offers.proofs.Choosing.{rows-start, rows-step, rows-end}
 use Rattle.offers.proofs.rows_by.Statement.{statement}
 use Rattle.offers.proofs.rows_by.Tie as tie

@@ -3,7 +3,7 @@
 use Prim.Native.Nat.{_-_, _≤_}
 use native.Mathlib.Omega.{arith}
 use mathlib.Core.Path.{_≡_, refl}
-use Rattle.offers.specs.Gathered.{budgetIn, holdingIn}
+use Rattle.offers.specs.Code.Gathered.{budgetIn, holdingIn}
 use Rattle.offers.proofs.Stores.{StoredTo, store-start, store-step, store-end}
 use Rattle.offers.proofs.store.Statement.{statement}
 use Rattle.offers.proofs.store.Tie as tie

@@ -5,7 +5,7 @@ use mathlib.Core.Path.{_≡_}
 use mathlib.Core.Bool.{false}
 use borrow.Author.Tests.{not-true, not-false}
 use Rattle.stretch.specs.Stretch.{bytesOf}
-use Rattle.plan_file.specs.Entries.{namesOf, placeAmong}
+use Rattle.plan_file.specs.Code.Entries.{namesOf, placeAmong}
 use Rattle.plan_file.proofs.Asking.{NumberIs, number-is, number-malformed, Named, named-by-tests, part-misplaced, part-misnamed, part-known, part-misnumbered, part-too-many, part-enters}
 use borrow.Author.Needs.{needs}
 use Rattle.part_line.proofs.ask_part.Statement.{statement}

@@ -7,7 +7,7 @@ use mathlib.Core.Path.{_≡_, sym, ap, _∙_}
 use mathlib.Core.List.{List, map}
 use lib.ListN.{length, take, drop}
 use Rattle.stretch.specs.Stretch.{bytesOf}
-use Rattle.plan_file.specs.Entries.{namesOf, placeAmong}
+use Rattle.plan_file.specs.Code.Entries.{namesOf, placeAmong}
 use Rattle.plan_file.proofs.Places.{place-here, place-more, place-end}
 use borrow.Author.Needs.{needs}
 use Rattle.plan_file.proofs.place_in.Statement.{statement}

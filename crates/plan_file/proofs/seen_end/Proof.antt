@@ -1,7 +1,7 @@
 -- `plan_file::seen_end` meets its contract.
 -- Assumes nothing.
 use mathlib.Core.Path.{refl}
-use Rattle.plan_file.specs.Entries.{seenEnd}
+use Rattle.plan_file.specs.Code.Entries.{seenEnd}
 use Rattle.plan_file.proofs.seen_end.Statement.{statement}
 use Rattle.plan_file.proofs.seen_end.Tie as tie
 

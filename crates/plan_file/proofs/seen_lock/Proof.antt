@@ -3,7 +3,7 @@
 use mathlib.Core.Path.{ap}
 use mathlib.Core.Bool.{false}
 use Rattle.plan_file.specs.declared.Names.{Names}
-use Rattle.plan_file.specs.Entries.{seenLock}
+use Rattle.plan_file.specs.Code.Entries.{seenLock}
 use borrow.Author.Needs.{needs}
 use Rattle.plan_file.proofs.seen_lock.Statement.{statement}
 use Rattle.plan_file.proofs.seen_lock.Tie as tie

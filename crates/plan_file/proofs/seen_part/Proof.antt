@@ -5,7 +5,7 @@ use mathlib.Core.Bool.{true}
 use borrow.Author.Needs.{needs}
 use Rattle.plan_file.specs.declared.Names.{Names}
 use Rattle.plan_file.specs.declared.Seen.{Seen}
-use Rattle.plan_file.specs.Entries.{seenPart}
+use Rattle.plan_file.specs.Code.Entries.{seenPart}
 use Rattle.plan_file.proofs.seen_part.Statement.{statement}
 use Rattle.plan_file.proofs.seen_part.Tie as tie
 

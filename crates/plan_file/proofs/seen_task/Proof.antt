@@ -3,7 +3,7 @@
 use mathlib.Core.Path.{ap}
 use mathlib.Core.Bool.{false}
 use Rattle.plan_file.specs.declared.Names.{Names}
-use Rattle.plan_file.specs.Entries.{seenTask}
+use Rattle.plan_file.specs.Code.Entries.{seenTask}
 use borrow.Author.Needs.{needs}
 use Rattle.plan_file.proofs.seen_task.Statement.{statement}
 use Rattle.plan_file.proofs.seen_task.Tie as tie

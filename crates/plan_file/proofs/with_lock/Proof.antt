@@ -1,7 +1,7 @@
 -- `plan_file::with_lock` meets its contract.
 -- Assumes nothing.
 use borrow.Author.Tests.{eq-eqb, ne-eqb}
-use Rattle.plan_file.specs.Entries.{withLockName}
+use Rattle.plan_file.specs.Code.Entries.{withLockName}
 use borrow.Author.Needs.{needs}
 use Rattle.plan_file.proofs.with_lock.Statement.{statement}
 use Rattle.plan_file.proofs.with_lock.Tie as tie

@@ -1,7 +1,7 @@
 -- `plan_file::with_name` meets its contract.
 -- Assumes nothing.
 use mathlib.Core.Path.{refl}
-use Rattle.plan_file.specs.Entries.{withName}
+use Rattle.plan_file.specs.Code.Entries.{withName}
 use borrow.Author.Needs.{needs}
 use Rattle.plan_file.proofs.with_name.Statement.{statement}
 use Rattle.plan_file.proofs.with_name.Tie as tie

@@ -4,23 +4,19 @@ use Prim.Native.Nat.{_+_, _*_, _-_, _^_, _≤_}
 use native.Mathlib.Omega.{arith}
 use borrow.Author.Needs.{needs}
 use mathlib.Core.Path.{_≡_, ap}
-use lib.ListN.{length, length-map}
-use Rattle.printing.specs.Printing.{listingAt, sharesIn}
-use Rattle.printing.proofs.Shares.{linesOf, Placed, placed, sharesFrom, parts-more-length, parts-end, listing-length}
+use lib.ListN.{length}
+use Rattle.printing.specs.Code.Printing.{listingAt, sharesIn}
+use Rattle.printing.proofs.Shares.{locks-fine, linesFrom, parts-more-length, parts-end, listing-length}
 use Rattle.printing.proofs.listing_length.Statement.{statement}
 use Rattle.printing.proofs.listing_length.Tie as tie
 
 abbrev Inv-loop : tie.InvT-loop
-Inv-loop file row f rows bounds n total₀ k₀ total k =
+Inv-loop file row ceilings f rows bounds n total₀ k₀ total k =
     (k ≤ f .count) × (total ≤ 2 ^ 33 + k * 2 ^ 37)
-    × (total + length (linesOf (sharesFrom file f rows bounds k)) ≡ length (listingAt row (sharesIn file f rows bounds)))
+    × (total + length (linesFrom file f rows bounds ceilings k) ≡ length (listingAt row (sharesIn file f rows bounds ceilings)))
 
 abbrev μ-loop : tie.MeasureT-loop
-μ-loop file row f rows bounds n total₀ k₀ total k = n - k
-
--- there is a row and a bound for each part
-room : (s : tie.Start Inv-loop μ-loop) → Placed (s .args .t2) (s .args .t3) (s .args .t4)
-room s = placed (s .args .t2) (s .args .t3) (s .args .t4) (s .pre .fine) (simp length-map at (s .good .1 .1 .0 .1 .1 .0 .1 .0 .1)) (search needs)
+μ-loop file row ceilings f rows bounds n total₀ k₀ total k = n - k
 
 sub-top : tie.Need-sub-top Inv-loop μ-loop
 sub-top c = search needs
@@ -47,7 +43,7 @@ loop-holds : tie.Need-loop-holds Inv-loop μ-loop
 loop-holds c =
     let s = c .before .before .before .before in
     let a = s .args in
-    let e = listing-length (a .file .now) (a .t2) (a .t3) (a .t4) (room s) (a .row) (s .pre) in
+    let e = listing-length (a .file .now) (a .t2) (a .t3) (a .t4) (a .ceilings .now) (a .row) (s .pre .row-some) (s .pre .row-most) in
     (omega arith, c .load-length .ensures .1, omega (arith, e, c .load-length .ensures .0))
 
 mul-p : tie.Need-mul-p Inv-loop μ-loop
@@ -68,18 +64,20 @@ mul-bound c = search needs
 array-copy-out-bound : tie.Need-array-copy-out-bound Inv-loop μ-loop
 array-copy-out-bound c = search needs
 
-part-length-requires : tie.Need-part-length-requires Inv-loop μ-loop
-part-length-requires c κs =
+mul-share-length : tie.Need-mul-share-length Inv-loop μ-loop
+mul-share-length c = search needs
+
+share-length-requires : tie.Need-share-length-requires Inv-loop μ-loop
+share-length-requires c κs =
     let l = c .before .before .before .before .loop in
     let s = c .before .before .before .before .before .before .before .before .before in
-    let f = s .args .t2 in
-    (s .pre .fine .parts (l .k) (omega arith), (s .pre .fine .counts (l .k) (omega arith), s .pre .short))
+    (locks-fine (s .args .t2) (s .pre .fine) (l .k) (omega arith), s .pre .short)
 
 add-total : tie.Need-add-total Inv-loop μ-loop
 add-total c =
     let l = c .before .before .before .before .before .loop in
     let s = c .before .before .before .before .before .before .before .before .before .before in
-    omega (arith, s .pre .fine .few, l .inv .1, c .part-length .ensures .1)
+    omega (arith, s .pre .fine .few, l .inv .1, c .share-length .ensures .1)
 
 add-k : tie.Need-add-k Inv-loop μ-loop
 add-k c = search needs
@@ -92,15 +90,15 @@ loop-again c =
     let l = c .before .before .before .before .before .loop in
     let s = c .before .before .before .before .before .before .before .before .before .before in
     let a = s .args in
-    let m = parts-more-length (a .file .now) (a .t2) (a .t3) (a .t4) (room s) (l .k) (omega arith) in
-    (omega arith, omega (arith, l .inv .1, c .part-length .ensures .1), omega (arith, m, l .inv .2, c .part-length .ensures .0))
+    let m = parts-more-length (a .file .now) (a .t2) (a .t3) (a .t4) (a .ceilings .now) (l .k) (omega arith) in
+    (omega arith, omega (arith, l .inv .1, c .share-length .ensures .1), omega (arith, m, l .inv .2, c .share-length .ensures .0))
 
 returns : tie.Need-returns Inv-loop μ-loop
 returns c =
     let l = c .before .loop in
     let s = c .before .before .before .before .before .before in
     let a = s .args in
-    let z = ap length (parts-end (a .file .now) (a .t2) (a .t3) (a .t4) (room s) (l .k) (omega arith)) in
+    let z = ap length (parts-end (a .file .now) (a .t2) (a .t3) (a .t4) (a .ceilings .now) (l .k) (omega arith)) in
     omega (arith, l .inv .2, z)
 
 pub listing-length-spec : {M : Type 1} → statement M
@@ -123,7 +121,8 @@ listing-length-spec =
     element-copy-out-r
     mul-bound
     array-copy-out-bound
-    part-length-requires
+    mul-share-length
+    share-length-requires
     add-total
     add-k
     loop-less

@@ -5,42 +5,37 @@ use native.Mathlib.Omega.{arith}
 use borrow.Author.Needs.{needs}
 use mathlib.Core.Path.{_∙_}
 use mathlib.Core.List.{List, _++_}
-use lib.ListN.{length-map}
 use Rattle.writer.proofs.Written.{Left, left-start, left-as, left-room, left-more, left-none, left-last}
 use Rattle.listing.specs.Listing.{shareLines}
-use Rattle.printing.specs.Printing.{listingAt, sharesIn}
-use Rattle.printing.proofs.Shares.{linesOf, Placed, placed, shareAt, sharesFrom, loadAt, parts-more, parts-end, listing-pieces}
+use Rattle.printing.specs.Code.Printing.{listingAt, shareIn, sharesIn}
+use Rattle.printing.proofs.Shares.{locks-fine, linesFrom, loadAt, parts-more, parts-end, listing-pieces}
 use Rattle.printing.proofs.write_listing.Statement.{statement}
 use Rattle.printing.proofs.write_listing.Tie as tie
 
 abbrev Inv-loop : tie.InvT-loop
-Inv-loop file row out₀ f rows bounds n next₀ k₀ out next k =
-    (k ≤ f .count) × Left next₀ (linesOf (sharesFrom file f rows bounds 0)) out₀ next (linesOf (sharesFrom file f rows bounds k)) out
+Inv-loop file row ceilings out₀ f rows bounds n next₀ k₀ out next k =
+    (k ≤ f .count) × Left next₀ (linesFrom file f rows bounds ceilings 0) out₀ next (linesFrom file f rows bounds ceilings k) out
 
 abbrev μ-loop : tie.MeasureT-loop
-μ-loop file row out₀ f rows bounds n next₀ k₀ out next k = n - k
-
--- there is a row and a bound for each part
-room : (s : tie.Start Inv-loop μ-loop) → Placed (s .args .t2) (s .args .t3) (s .args .t4)
-room s = placed (s .args .t2) (s .args .t3) (s .args .t4) (s .pre .0 .fine) (simp length-map at (s .good .1 .1 .0 .1 .1 .0 .1 .0 .1)) (search needs)
+μ-loop file row ceilings out₀ f rows bounds n next₀ k₀ out next k = n - k
 
 -- the whole listing, its load line, the lines of the part k, and the lines from there on
 abbrev whole : tie.Start Inv-loop μ-loop → List ℕ
-whole s = let a = s .args in listingAt (a .row) (sharesIn (a .file .now) (a .t2) (a .t3) (a .t4))
+whole s = let a = s .args in listingAt (a .row) (sharesIn (a .file .now) (a .t2) (a .t3) (a .t4) (a .ceilings .now))
 
 abbrev load : tie.Start Inv-loop μ-loop → List ℕ
-load s = let a = s .args in loadAt (a .file .now) (a .t2) (a .t3) (a .t4) (a .row)
+load s = let a = s .args in loadAt (a .file .now) (a .t2) (a .t3) (a .t4) (a .ceilings .now) (a .row)
 
 abbrev part : tie.Start Inv-loop μ-loop → ℕ → List ℕ
-part s k = let a = s .args in shareLines (shareAt (a .file .now) (a .t2) (a .t3) (a .t4) k)
+part s k = let a = s .args in shareLines (shareIn (a .file .now) (a .t2) (a .t3) (a .t4) (a .ceilings .now) k)
 
 abbrev partsFrom : tie.Start Inv-loop μ-loop → ℕ → List ℕ
-partsFrom s k = let a = s .args in linesOf (sharesFrom (a .file .now) (a .t2) (a .t3) (a .t4) k)
+partsFrom s k = let a = s .args in linesFrom (a .file .now) (a .t2) (a .t3) (a .t4) (a .ceilings .now) k
 
 start : (s : tie.Start Inv-loop μ-loop) → Left 0 (whole s) (s .args .out .now) 0 (load s ++ partsFrom s 0) (s .args .out .now)
 start s =
     let a = s .args in
-    left-as (listing-pieces (a .file .now) (a .t2) (a .t3) (a .t4) (room s) (a .row) (s .pre .0)) (left-start 0 (whole s) (a .out .now) (omega (arith, s .pre .1)))
+    left-as (listing-pieces (a .file .now) (a .t2) (a .t3) (a .t4) (a .ceilings .now) (a .row) (s .pre .0 .row-some) (s .pre .0 .row-most)) (left-start 0 (whole s) (a .out .now) (omega (arith, s .pre .1)))
 
 -- behind the load line, the parts are left
 behind-load : (c : tie.After-slice-known2 Inv-loop μ-loop) →
@@ -52,7 +47,7 @@ behind-load c =
     left-more (load s) (partsFrom s 0) (start s) (c .before .before .write-load .ensures)
 
 -- the lines of the part k are the first of what is left
-cut : (c : tie.After-write-part-arg Inv-loop μ-loop) →
+cut : (c : tie.After-write-share-arg Inv-loop μ-loop) →
     let l = c .before .before .before .before .before .loop in
     let s = c .before .before .before .before .before .before .before .before .before .before .before .before .before .before in
     let w = c .before .before .before .before .before .before .before .before .write-load in
@@ -61,7 +56,7 @@ cut c =
     let l = c .before .before .before .before .before .loop in
     let s = c .before .before .before .before .before .before .before .before .before .before .before .before .before .before in
     let a = s .args in
-    left-as (parts-more (a .file .now) (a .t2) (a .t3) (a .t4) (room s) (l .k) (omega arith)) (l .inv .1)
+    left-as (parts-more (a .file .now) (a .t2) (a .t3) (a .t4) (a .ceilings .now) (l .k) (omega arith)) (l .inv .1)
 
 sub-top : tie.Need-sub-top Inv-loop μ-loop
 sub-top c = search needs
@@ -110,12 +105,14 @@ mul-bound c = search needs
 array-copy-out-bound : tie.Need-array-copy-out-bound Inv-loop μ-loop
 array-copy-out-bound c = search needs
 
-write-part-requires : tie.Need-write-part-requires Inv-loop μ-loop
-write-part-requires c κs =
+mul-write-share : tie.Need-mul-write-share Inv-loop μ-loop
+mul-write-share c = search needs
+
+write-share-requires : tie.Need-write-share-requires Inv-loop μ-loop
+write-share-requires c κs =
     let l = c .before .before .before .before .before .loop in
     let s = c .before .before .before .before .before .before .before .before .before .before .before .before .before .before in
-    let f = s .args .t2 in
-    (s .pre .0 .fine .parts (l .k) (omega arith), (s .pre .0 .fine .counts (l .k) (omega arith), left-room (part s (l .k)) (partsFrom s (l .k + 1)) (cut c)))
+    (locks-fine (s .args .t2) (s .pre .0 .fine) (l .k) (omega arith), left-room (part s (l .k)) (partsFrom s (l .k + 1)) (cut c))
 
 add-k : tie.Need-add-k Inv-loop μ-loop
 add-k c = search needs
@@ -128,7 +125,7 @@ loop-again c =
     let w = c .before .before in
     let l = w .before .before .before .before .before .before .loop in
     let s = w .before .before .before .before .before .before .before .before .before .before .before .before .before .before .before in
-    (omega arith, left-more (part s (l .k)) (partsFrom s (l .k + 1)) (cut (w .before)) (w .write-part .ensures))
+    (omega arith, left-more (part s (l .k)) (partsFrom s (l .k + 1)) (cut (w .before)) (w .write-share .ensures))
 
 same-length : tie.Need-same-length Inv-loop μ-loop
 same-length c = c .before .loop .inv .1 .long ∙ behind-load (c .before .before) .long
@@ -139,7 +136,7 @@ returns c =
     let s = c .before .before .before .before .before .before .before .before .before .before in
     let a = s .args in
     left-last (behind-load (c .before .before))
-    (left-none (left-as (parts-end (a .file .now) (a .t2) (a .t3) (a .t4) (room s) (l .k) (omega arith)) (l .inv .1)))
+    (left-none (left-as (parts-end (a .file .now) (a .t2) (a .t3) (a .t4) (a .ceilings .now) (l .k) (omega arith)) (l .inv .1)))
 
 pub write-listing-spec : {M : Type 1} → statement M
 write-listing-spec =
@@ -161,7 +158,8 @@ write-listing-spec =
     element-copy-out-r
     mul-bound
     array-copy-out-bound
-    write-part-requires
+    mul-write-share
+    write-share-requires
     add-k
     loop-less
     loop-again

@@ -2,7 +2,7 @@
 -- Assumes nothing.
 use borrow.Author.Tests.{not-true, not-false}
 use Rattle.refusal.specs.Questions.{firstNo}
-use Rattle.plan_file.specs.Entries.{endEntry, entryIf}
+use Rattle.plan_file.specs.Code.Entries.{endEntry, entryIf}
 use Rattle.questions.proofs.ask_end.Statement.{statement}
 use Rattle.questions.proofs.ask_end.Tie as tie
 

@@ -1,7 +1,7 @@
 -- `questions::entry_at` meets its contract: each kind of record has its own function.
 -- Assumes nothing.
 use borrow.Author.Needs.{needs}
-use Rattle.plan_file.specs.Entries.{entryOf}
+use Rattle.plan_file.specs.Code.Entries.{entryOf}
 use Rattle.questions.proofs.entry_at.Statement.{statement}
 use Rattle.questions.proofs.entry_at.Tie as tie
 

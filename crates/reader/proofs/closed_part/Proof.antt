@@ -1,7 +1,7 @@
 -- `reader::closed_part` meets its contract.
 -- Assumes nothing.
 use mathlib.Core.Path.{refl}
-use Rattle.reader.specs.Reader.{closedPart}
+use Rattle.reader.specs.Code.Reader.{closedPart}
 use Rattle.reader.proofs.closed_part.Statement.{statement}
 use Rattle.reader.proofs.closed_part.Tie as tie
 

@@ -2,7 +2,7 @@
 -- Assumes nothing.
 use mathlib.Core.Path.{refl}
 use borrow.Author.Needs.{needs}
-use Rattle.reader.specs.Reader.{heldAt}
+use Rattle.reader.specs.Code.Reader.{heldAt}
 use Rattle.reader.proofs.held_at.Statement.{statement}
 use Rattle.reader.proofs.held_at.Tie as tie
 

@@ -6,8 +6,8 @@ use borrow.Author.Needs.{needs}
 use Rattle.least.specs.Lists.{pad}
 use Rattle.task_set.specs.declared.Task.{Task}
 use Rattle.plan_file.specs.declared.Names.{Names}
-use Rattle.plan_file.specs.Entries.{noSpan}
-use Rattle.reader.specs.Reader.{closedPart}
+use Rattle.plan_file.specs.Stretches.{noSpan}
+use Rattle.reader.specs.Code.Reader.{closedPart}
 use Rattle.reader.proofs.no_part.Statement.{statement}
 use Rattle.reader.proofs.no_part.Tie as tie
 

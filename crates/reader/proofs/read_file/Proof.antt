@@ -7,30 +7,33 @@ use lib.ListN.{length}
 use native.Mathlib.Omega.{arith}
 use borrow.Author.Needs.{needs}
 use Rattle.least.specs.Lists.{pad}
+use Rattle.least.proofs.Members.{getD-any}
 use Rattle.least.proofs.Pad.{length-pad}
 use Rattle.refusal.specs.declared.Refusal.{Refusal}
 use Rattle.refusal.specs.declared.Refusal.the-variants.{FileTooLong, BadLine, Misplaced}
 use Rattle.refusal.specs.Questions.Answer.{refused}
 use Rattle.records.specs.declared.Cursor.{Cursor}
 use Rattle.records.specs.declared.Shape.{Shape}
-use Rattle.records.specs.Cursor.{RecordIs}
-use Rattle.plan_file.specs.Reading.{readFile}
-use Rattle.plan_file.specs.Entries.{noSpan, noTaskRead, noneSeen, entryOf}
+use Rattle.records.specs.Code.Cursor.{RecordIs}
+use Rattle.plan_file.specs.Reading.{readFrom}
+use Rattle.plan_file.specs.Numbers.{numbered}
+use Rattle.plan_file.specs.Stretches.{noSpan}
+use Rattle.plan_file.specs.Code.Entries.{noTaskRead, noneSeen, entryOf}
 use Rattle.reader.specs.declared.PlanFile.{PlanFile}
-use Rattle.reader.specs.Reader.{refusedFile, noPartRead, numbered, ReadIs}
+use Rattle.reader.specs.Code.Reader.{FineCounts, refusedFile, noPartRead, blankPart, ReadFromIs}
 use Rattle.reader.proofs.Reading.{Reading, reading-start, reading-too-long, refused-file, turn-shortens, reading-fine, reading-refused, reading-broken, reading-over, reading-done, reading-spans}
 use Rattle.reader.proofs.Turns.{part-room, name-room, task-room, lock-room, reading-part, reading-task, reading-lock, reading-end}
 use Rattle.reader.proofs.read_file.Statement.{statement}
 use Rattle.reader.proofs.read_file.Tie as tie
 
 abbrev Inv-loop : tie.InvT-loop
-Inv-loop s c₀ seen₀ no-one all₀ open₀ name₀ period₀ tasks₀ c seen all «open» name period tasks = Reading s c seen «open» name period tasks all
+Inv-loop s first c₀ seen₀ no-one all₀ open₀ name₀ period₀ tasks₀ c seen all «open» name period tasks = Reading first s c seen «open» name period tasks all
 
 abbrev μ-loop : tie.MeasureT-loop
-μ-loop s c₀ seen₀ no-one all₀ open₀ name₀ period₀ tasks₀ c seen all «open» name period tasks = length s - c .at
+μ-loop s first c₀ seen₀ no-one all₀ open₀ name₀ period₀ tasks₀ c seen all «open» name period tasks = length s - c .at
 
 -- a refusal that the file has
-refused-is : (s : List ℕ) (x : Refusal) (f : PlanFile) → f ≡ refusedFile x → refused x ≡ numbered (readFile s) → ReadIs s f
+refused-is : {n : ℕ} (s : List ℕ) (x : Refusal) (f : PlanFile) → f ≡ refusedFile x → refused x ≡ numbered (readFrom n s) → ReadFromIs n s f
 unfolding refusedFile
 refused-is s x f e h = record { value = rw e (refused-file s x ∙ h); few = rw e (omega arith); room = rw e (length-pad 16 noPartRead []); counts = rw e (λ k h. absurd (omega arith)); spans = rw e (λ h. absurd (let z : _≡_ {A = ℕ} 0 1 = cc in omega arith)) }
 
@@ -67,7 +70,7 @@ refused-file-requires c κs = search needs
 returns : tie.Need-returns Inv-loop μ-loop
 returns c =
     let s = c .before .before .before .args .s .now in
-    refused-is s FileTooLong (c .refused-file .result) (c .refused-file .ensures) (reading-too-long s (omega arith))
+    refused-is s FileTooLong (c .refused-file .result) (c .refused-file .ensures) (reading-too-long _ s (omega arith))
 
 new-requires : tie.Need-new-requires Inv-loop μ-loop
 new-requires c κs = search needs
@@ -84,11 +87,11 @@ no-part-requires c κs = search needs
 loop-holds : tie.Need-loop-holds Inv-loop μ-loop
 unfolding pad
 loop-holds c =
-    let s = c .before .before .before .before .before .before .args .s .now in
+    let a = c .before .before .before .before .before .before .args in
     let n = c .before .before .before .new in
-    let first : _≡_ {A = Cursor} (record { at = 0; line = 1 }) (n .result) = λ i. record { at = sym (n .ensures .0) i; line = sym (n .ensures .1) i } in
+    let start : _≡_ {A = Cursor} (record { at = 0; line = a .first }) (n .result) = λ i. record { at = sym (n .ensures .0) i; line = sym (n .ensures .1) i } in
     rw (c .no-part .ensures, c .before .no-task .ensures, c .before .before .none-seen .ensures)
-    (subst (λ (k : Cursor). Reading s k noneSeen 0 noSpan 0 (pad 16 noTaskRead []) (pad 16 noPartRead [])) first (reading-start s (omega arith)))
+    (subst (λ (k : Cursor). Reading (a .first) (a .s .now) k noneSeen 0 noSpan 0 (pad 16 noTaskRead []) (pad 16 noPartRead [])) start (reading-start (a .first) (a .s .now) (omega arith)))
 
 next-requires : tie.Need-next-requires Inv-loop μ-loop
 next-requires c κs = search needs
@@ -99,11 +102,12 @@ enum-told c = search needs
 returns-2 : tie.Need-returns-2 Inv-loop μ-loop
 returns-2 c =
     let l = c .before .before .before .before in
+    let few = reading-fine (file l) (l .loop .c) (l .loop .seen) (l .loop .«open») (l .loop .name) (l .loop .period) (l .loop .tasks) (l .loop .all) (l .loop .inv) .parts .few in
     record {
       value = reading-done (file l) (l .loop .c) (l .loop .seen) (l .loop .«open») (l .loop .name) (l .loop .period) (l .loop .tasks) (l .loop .all) (l .loop .inv) (rw (c .before .enum-told .given .1) at (c .before .before .before .next .ensures)) (c .if2 .taken);
-      few = reading-fine (file l) (l .loop .c) (l .loop .seen) (l .loop .«open») (l .loop .name) (l .loop .period) (l .loop .tasks) (l .loop .all) (l .loop .inv) .parts .few;
+      few = few;
       room = l .loop .inv .stands .room;
-      counts = λ k h. l .loop .inv .stands .counts k;
+      counts = λ k h. subst FineCounts (getD-any (l .loop .all) k noPartRead blankPart (omega (arith, l .loop .inv .stands .room, few))) (l .loop .inv .stands .counts k);
       spans = λ d. reading-spans (file l) (l .loop .c) (l .loop .seen) (l .loop .«open») (l .loop .name) (l .loop .period) (l .loop .tasks) (l .loop .all) (l .loop .inv) (rw (c .before .enum-told .given .1) at (c .before .before .before .next .ensures)) (c .if2 .taken);
     }
 

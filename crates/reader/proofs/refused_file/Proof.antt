@@ -3,7 +3,7 @@
 use mathlib.Core.Path.{refl}
 use borrow.Author.Needs.{needs}
 use Rattle.least.specs.Lists.{pad}
-use Rattle.reader.specs.Reader.{refusedFile}
+use Rattle.reader.specs.Code.Reader.{refusedFile}
 use Rattle.reader.proofs.refused_file.Statement.{statement}
 use Rattle.reader.proofs.refused_file.Tie as tie
 

@@ -1,7 +1,7 @@
 -- `records::end_of` meets its contract.
 -- Assumes nothing.
 use borrow.Author.Tests.{lt-ltb, le-ltb}
-use Rattle.records.specs.Shapes.{endOf}
+use Rattle.records.specs.Code.Shapes.{endOf}
 use borrow.Author.Needs.{needs}
 use Rattle.records.proofs.end_of.Statement.{statement}
 use Rattle.records.proofs.end_of.Tie as tie

@@ -1,6 +1,6 @@
 -- `records::end_shape` meets its contract.
 -- Assumes nothing.
-use Rattle.records.specs.Shapes.{endShape}
+use Rattle.records.specs.Code.Shapes.{endShape}
 use borrow.Author.Tests.{eq-eqb, ne-eqb}
 use Rattle.records.proofs.end_shape.Statement.{statement}
 use Rattle.records.proofs.end_shape.Tie as tie

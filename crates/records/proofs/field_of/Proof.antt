@@ -2,7 +2,7 @@
 -- Assumes nothing.
 use Prim.Native.Nat.{_-_}
 use native.Mathlib.Omega.{arith}
-use Rattle.records.specs.Shapes.{field}
+use Rattle.records.specs.Code.Shapes.{field}
 use borrow.Author.Needs.{needs}
 use Rattle.records.proofs.field_of.Statement.{statement}
 use Rattle.records.proofs.field_of.Tie as tie

@@ -1,6 +1,6 @@
 -- `records::first_field` meets its contract.
 -- Assumes nothing.
-use Rattle.records.specs.Shapes.{firstField}
+use Rattle.records.specs.Code.Shapes.{firstField}
 use borrow.Author.Needs.{needs}
 use Rattle.records.proofs.first_field.Statement.{statement}
 use Rattle.records.proofs.first_field.Tie as tie

@@ -1,6 +1,6 @@
 -- `records::lock_shape` meets its contract.
 -- Assumes nothing.
-use Rattle.records.specs.Shapes.{lockShape}
+use Rattle.records.specs.Code.Shapes.{lockShape}
 use borrow.Author.Tests.{eq-eqb, ne-eqb}
 use borrow.Author.Needs.{needs}
 use Rattle.records.proofs.lock_shape.Statement.{statement}

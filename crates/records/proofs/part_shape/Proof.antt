@@ -1,6 +1,6 @@
 -- `records::part_shape` meets its contract.
 -- Assumes nothing.
-use Rattle.records.specs.Shapes.{partShape}
+use Rattle.records.specs.Code.Shapes.{partShape}
 use borrow.Author.Tests.{eq-eqb, ne-eqb}
 use borrow.Author.Needs.{needs}
 use Rattle.records.proofs.part_shape.Statement.{statement}

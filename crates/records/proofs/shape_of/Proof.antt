@@ -1,6 +1,6 @@
 -- `records::shape_of` meets its contract: each arm is a case of `shapeOf`.
 -- Assumes nothing.
-use Rattle.records.specs.Shapes.{shapeOf}
+use Rattle.records.specs.Code.Shapes.{shapeOf}
 use borrow.Author.Needs.{needs}
 use Rattle.records.proofs.shape_of.Statement.{statement}
 use Rattle.records.proofs.shape_of.Tie as tie

@@ -4,7 +4,7 @@ use mathlib.Core.Path.{refl, ap}
 use Prim.Native.Nat.{ℕ}
 use native.Mathlib.Omega.{arith}
 use Rattle.stretch.specs.declared.Span.{Span}
-use Rattle.records.specs.Shapes.{upTo}
+use Rattle.records.specs.Code.Shapes.{upTo}
 use Rattle.records.proofs.span_to.Statement.{statement}
 use Rattle.records.proofs.span_to.Tie as tie
 

@@ -1,6 +1,6 @@
 -- `records::task_shape` meets its contract.
 -- Assumes nothing.
-use Rattle.records.specs.Shapes.{taskShape}
+use Rattle.records.specs.Code.Shapes.{taskShape}
 use borrow.Author.Tests.{eq-eqb, ne-eqb}
 use borrow.Author.Needs.{needs}
 use Rattle.records.proofs.task_shape.Statement.{statement}

@@ -1,6 +1,6 @@
 -- `records::word_of` meets its contract: at each `return` the comparisons that led there decide `wordOf`.
 -- Assumes nothing.
-use Rattle.records.specs.Shapes.{wordOf}
+use Rattle.records.specs.Code.Shapes.{wordOf}
 use mathlib.Core.Path.{sym, _∙_}
 use Rattle.text.specs.Bytes.{bytes}
 use borrow.Author.Needs.{needs}

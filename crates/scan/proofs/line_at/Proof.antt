@@ -8,7 +8,7 @@ use mathlib.Core.Path.{_≡_, refl, sym, ap, _∙_}
 use mathlib.Core.List.{List, [], _∷_, _++_}
 use lib.ListN.{length, drop}
 use Rattle.least.specs.Lists.{pad}
-use Rattle.scan.specs.Code.{lineAt, firstFive}
+use Rattle.scan.specs.Positions.{lineAt, firstFive}
 use Rattle.scan.proofs.Scan.{goodAt, lineFrom, from-start, at-newline, at-forbidden, at-plain, at-tab, at-end, five-stored, five-full}
 use Rattle.scan.proofs.line_at.Statement.{statement}
 use Rattle.scan.proofs.line_at.Tie as tie

@@ -7,12 +7,13 @@ use native.Mathlib.Omega.{arith}
 use borrow.Author.Needs.{needs}
 use mathlib.Core.List.{List}
 use Rattle.least.proofs.Fill.{Filled, fill-start, fill-step}
+use Rattle.refusal.specs.Limits.{keptLimit}
 use Rattle.selection.proofs.columns_at.Statement.{statement}
 use Rattle.selection.proofs.columns_at.Tie as tie
 
 -- the pair at the place of the part k
 abbrev pairAt : List ℕ → ℕ → ℕ
-pairAt places k = 121 * k + getD places k 0
+pairAt places k = keptLimit * k + getD places k 0
 
 abbrev timeAt : List ℕ → List ℕ → ℕ → ℕ
 timeAt holdings places k = getD holdings (pairAt places k) 0

@@ -6,9 +6,9 @@ use mathlib.Core.Path.{_≡_, sym}
 use native.Mathlib.Omega.{arith}
 use Rattle.least.specs.Fraction.{_⊏_}
 use Rattle.refusal.specs.Limits.{numberLimit}
-use Rattle.load.specs.ByColumn.{rowsBy}
+use Rattle.load.specs.Code.ByColumn.{rowsBy}
 use Rattle.load.proofs.RowsBy.{blocking-none, blocking-next}
-use Rattle.selection.specs.Code.{boundAt, heldBefore}
+use Rattle.selection.specs.Code.Choosing.{boundAt, heldBefore}
 use Rattle.selection.proofs.Leading.{stuck-here, stuck-next, stuck-nowhere}
 use Rattle.selection.proofs.first_reaching.Statement.{statement}
 use Rattle.selection.proofs.first_reaching.Tie as tie

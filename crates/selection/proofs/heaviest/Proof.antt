@@ -7,9 +7,9 @@ use lib.ListN.{length}
 use native.Mathlib.Omega.{arith}
 use mathlib.Core.Logic.{⊎-elim}
 use Rattle.refusal.specs.Limits.{numberLimit}
-use Rattle.load.specs.ByColumn.{rowsBy}
+use Rattle.load.specs.Code.ByColumn.{rowsBy}
 use Rattle.load.proofs.RowsBy.{rows-length, blocking-none, blocking-next}
-use Rattle.selection.specs.Code.{heldBefore}
+use Rattle.selection.specs.Code.Choosing.{heldBefore}
 use Rattle.selection.proofs.Leading.{Ahead, ahead-as, ahead-start, ahead-stays, ahead-goes, ahead-fine, bound-is, reaches-true, reaches-false, heaviest-of-all}
 use Rattle.selection.proofs.heaviest.Statement.{statement}
 use Rattle.selection.proofs.heaviest.Tie as tie

@@ -1,7 +1,7 @@
 -- `shown::ceiling_or_0` meets its contract.
 -- Assumes nothing.
 use borrow.Author.Needs.{needs}
-use Rattle.shown.specs.Shown.{ceilingOr0}
+use Rattle.shown.specs.Code.Shown.{ceilingOr0}
 use Rattle.shown.proofs.ceiling_or_0.Statement.{statement}
 use Rattle.shown.proofs.ceiling_or_0.Tie as tie
 

@@ -5,7 +5,7 @@ use mathlib.Core.Path.{_≡_}
 use mathlib.Core.Bool.{false}
 use borrow.Author.Tests.{not-true, not-false}
 use Rattle.stretch.specs.Stretch.{bytesOf}
-use Rattle.plan_file.specs.Entries.{namesOf, placeAmong}
+use Rattle.plan_file.specs.Code.Entries.{namesOf, placeAmong}
 use Rattle.plan_file.proofs.Asking.{TimesAre, times-are, times-malformed, Named, named-by-tests, task-misplaced, task-misnamed, task-known, task-misnumbered, task-cost-over-deadline, task-deadline-over-separation, task-too-many, task-enters}
 use borrow.Author.Needs.{needs}
 use Rattle.task_line.proofs.ask_task.Statement.{statement}

@@ -8,7 +8,7 @@ use mathlib.Core.List.{List, map}
 use lib.ListN.{getD}
 use Rattle.least.specs.Lists.{greatest, countFrom}
 use Rattle.least.proofs.Greatest.{greatest-from, greatest-past}
-use Rattle.task_set.specs.ByLock.{blockedFor, blockingBy}
+use Rattle.task_set.specs.Code.ByLock.{blockedFor, blockingBy}
 use Rattle.task_set.proofs.blocking_at.Statement.{statement}
 use Rattle.task_set.proofs.blocking_at.Tie as tie
 

@@ -6,7 +6,7 @@ use mathlib.Core.Path.{refl}
 use lib.ListN.{getD}
 use Rattle.least.proofs.Fill.{Filled, fill-start, fill-step}
 use Rattle.task_set.specs.declared.Part.{Part}
-use Rattle.task_set.specs.Fine.{blankTask}
+use Rattle.task_set.specs.Code.Fine.{blankTask}
 use Rattle.task_set.proofs.columns_of.Statement.{statement}
 use Rattle.task_set.proofs.columns_of.Tie as tie
 

@@ -2,7 +2,7 @@
 -- Assumes nothing.
 use Prim.Native.Nat.{suc, _-_}
 use native.Mathlib.Omega.{arith}
-use Rattle.task_set.specs.Tasks.{tasksOf}
+use Rattle.task_set.specs.Code.Tasks.{tasksOf}
 use Rattle.task_set.proofs.Places.{tasks-end}
 use Rattle.task_set.proofs.ByLock.{Counted, counted-start, counted-next, counted-end}
 use Rattle.task_set.proofs.lock_at.Statement.{statement}

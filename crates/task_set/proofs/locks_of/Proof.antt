@@ -6,7 +6,8 @@ use mathlib.Core.Path.{ap}
 use Rattle.least.proofs.Fill.{Filled, fill-start, fill-step}
 use Rattle.task_set.specs.declared.Part.{Part}
 use Rattle.task_set.specs.declared.Lock.{Lock}
-use Rattle.task_set.specs.Tasks.{lowestCeiling, greatestHeld, smallestDeadline, tasksOf}
+use Rattle.task_set.specs.Tasks.{lowestCeiling, greatestHeld, smallestDeadline}
+use Rattle.task_set.specs.Code.Tasks.{tasksOf}
 use Rattle.task_set.proofs.locks_of.Statement.{statement}
 use Rattle.task_set.proofs.locks_of.Tie as tie
 

@@ -5,11 +5,11 @@ use native.Mathlib.Numerals.{add-one}
 use native.Mathlib.Omega.{arith}
 use mathlib.Core.Path.{_≡_}
 use lib.ListN.{drop, getD}
-use Rattle.envelope.specs.Envelope.{slopeScale}
+use Rattle.envelope.specs.Code.Envelope.{slopeScale}
 use Rattle.task_set.specs.declared.Part.{Part}
-use Rattle.task_set.specs.Tasks.{tasksOf}
-use Rattle.task_set.specs.Fine.{blankTask, FineTask}
-use Rattle.utilisation.specs.Utilisation.{share, shareIn}
+use Rattle.task_set.specs.Code.Tasks.{tasksOf}
+use Rattle.task_set.specs.Code.Fine.{blankTask, FineTask}
+use Rattle.utilisation.specs.Code.Utilisation.{share, shareIn}
 use Rattle.utilisation.proofs.Shares.{share-most, share-next, share-end}
 use Rattle.utilisation.proofs.share_of.Statement.{statement}
 use Rattle.utilisation.proofs.share_of.Tie as tie

@@ -6,7 +6,7 @@ use lib.ListN.{length, set, length-set}
 use native.Mathlib.Omega.{arith}
 use mathlib.Core.List.{List}
 use Rattle.text.specs.Decimal.{digitsOf}
-use Rattle.writer.specs.Written.{written}
+use Rattle.writer.specs.Code.Written.{written}
 use Rattle.writer.proofs.Written.{written-one, written-last}
 use Rattle.writer.proofs.Digits.{digits-one, digits-more, digits-more-length, digits-some}
 use borrow.Author.Needs.{needs}
