@@ -19,6 +19,7 @@ use Rattle.least.proofs.Lists.{every-member, every-not, some-iff, some-none, Fi
 use Rattle.least.proofs.Each.{length-equal}
 use Rattle.least.proofs.Zip.{zip3-second, zip3-third}
 use Rattle.least.proofs.Fraction.{⊑-trans}
+use Rattle.refusal.specs.declared.Refusal.{Refusal}
 use Rattle.refusal.specs.declared.Outcome.the-variants.{Done, Refused}
 use Rattle.refusal.specs.declared.Refusal.the-variants.{NoBudget, NoChoice, NoRoom}
 use Rattle.refusal.specs.Questions.{Answer, firstNo, whenAnswered, whenDone}
@@ -142,6 +143,11 @@ listed-or-14 plan room = go (leb (length (planText plan)) room)
     go : (b : Bool) → whenDone (cond b Done (Refused NoRoom)) (answered (planText plan)) ≡ cond b (answered (planText plan)) (refused NoRoom)
     go true = refl
     go false = refl
+
+-- questions 1 to 9
+pub plan-unread : (s : List ℕ) (r : Refusal) → partsOf s ≡ refused r → (room : ℕ) → planOf s room ≡ refused r
+unfolding planOf planFile whenAnswered
+plan-unread s r e room = rw e refl
 
 module _ (s : List ℕ) (ps : List PlanPart) (room : ℕ) (e : partsOf s ≡ answered ps) where
   plan-parts : planOf s room ≡ whenAnswered (chosenPlan ps) (listedIn room)

@@ -14,7 +14,7 @@ use Rattle.plan_file.specs.Numbers.{PlanPart, partsOf}
 use Rattle.plan_file.proofs.PlanParts.{parts-fine, parts-few}
 use Rattle.listing.proofs.Lengths.{listingLimit}
 use Rattle.answers.specs.Answers.{planOf}
-use Rattle.planning.proofs.Answering.{plan-unread}
+use Rattle.answers.proofs.PlanRows.{plan-unread}
 use Rattle.planner.specs.Demand3.{NoneToPlan, Demanded}
 use Rattle.planner.specs.Demand3.NoneToPlan.{ten, eleven}
 use Rattle.planner.specs.Demand3.Demanded.{none-passes, fits, too-long}

@@ -33,9 +33,8 @@ use Rattle.reader.specs.declared.PlanFile.{PlanFile}
 use Rattle.answers.specs.Parts.{keptRows}
 use Rattle.answers.specs.Plan.{offered, leastRows, chosenRows}
 use Rattle.answers.proofs.PlanRows.{leastRows-kept}
-use Rattle.offers.specs.declared.Offers.{Offers}
 use Rattle.offers.specs.declared.PlanRows.{PlanRows}
-use Rattle.offers.specs.Code.Gathered.{listIn, FineParts, MissingIs, Gathered, isOver}
+use Rattle.offers.specs.Code.Gathered.{listIn, FineParts, OfferedAt, MissingIs, isOver}
 use Rattle.offers.specs.Code.Least.{partitionsIn, noRows, planRowsFrom}
 use Rattle.offers.proofs.ByPlace.{partRows, rowsIn, offered-by-place}
 use Rattle.offers.proofs.Rows.{offers-are}
@@ -88,7 +87,7 @@ module _ (f : PlanFile) (fine : FineParts f) where
   refused-is r e = sym (planned-is (Refused r) e)
 
   -- the part with the number `suc k` is the first without a kept pair
-  no-budget : (k : ℕ) → k < f .count → length (listIn f k) ≡ 0 → ((j : ℕ) → j < k → 1 ≤ length (listIn f j)) → noRows (NoBudget (suc k)) ≡ planRows
+  pub no-budget : (k : ℕ) → k < f .count → length (listIn f k) ≡ 0 → ((j : ℕ) → j < k → 1 ≤ length (listIn f j)) → noRows (NoBudget (suc k)) ≡ planRows
   unfolding choiceQuestions
   no-budget k h none before =
       let first : firstOf isEmpty (rowsIn f) ≡ suc k = first-is [] isEmpty k (rowsIn f) (omega (arith, rows-length)) (missed k h none) (λ j l. filled-at j (omega arith) (before j l)) in
@@ -124,12 +123,12 @@ pub over-refused : (f : PlanFile) → FineParts f → MissingIs f 0 → isOver f
 over-refused f fine is over = no-choice f fine (is .all refl) (over-none f fine over)
 
 -- what was selected from the columns, said of the file
-module _ (f : PlanFile) (fine : FineParts f) (o : Offers) (g : Gathered f o) (all : o .missing ≡ 0) (c : Choice) (is : ChoiceIs (o .periods) (o .budgets) (o .holdings) (o .counts) (f .count) c) where
+module _ (f : PlanFile) (fine : FineParts f) (periods counts budgets holdings : List ℕ) (all : (k : ℕ) → k < f .count → OfferedAt f periods counts budgets holdings k) (c : Choice) (is : ChoiceIs periods budgets holdings counts (f .count) c) where
   filled : (k : ℕ) → k < f .count → 1 ≤ length (listIn f k)
-  filled k h = g .all all k h .some
+  filled k h = all k h .some
 
-  same-rows : offersOf (o .periods) (o .budgets) (o .holdings) (o .counts) (f .count) ≡ rowsIn f
-  same-rows = offers-are f fine (o .periods) (o .counts) (o .budgets) (o .holdings) (g .all all)
+  same-rows : offersOf periods budgets holdings counts (f .count) ≡ rowsIn f
+  same-rows = offers-are f fine periods counts budgets holdings all
 
   found-is : c .found ≡ some passesSystem (choices (rowsIn f))
   found-is = is .found ∙ ap (λ (kept : List (List Row)). some passesSystem (choices kept)) same-rows
@@ -137,6 +136,6 @@ module _ (f : PlanFile) (fine : FineParts f) (o : Offers) (g : Gathered f o) (al
   pub none-found : c .found ≡ false → noRows NoChoice ≡ planRowsFrom (chosenRows (partitionsIn f))
   none-found e = no-choice f fine filled (sym found-is ∙ e)
 
-  pub rows-found : (rows : Rows) → c .found ≡ true → rows ≡ rowsFrom (rowsBy (o .periods) (c .sums) (c .holdings) (f .count)) (f .count) → _≡_ {A = PlanRows} (record { outcome = Done; rows = rows }) (planRowsFrom (chosenRows (partitionsIn f)))
+  pub rows-found : (rows : Rows) → c .found ≡ true → rows ≡ rowsFrom (rowsBy periods (c .sums) (c .holdings) (f .count)) (f .count) → _≡_ {A = PlanRows} (record { outcome = Done; rows = rows }) (planRowsFrom (chosenRows (partitionsIn f)))
   rows-found rows e q =
       chosen f fine filled rows (sym found-is ∙ e) (q ∙ ap (λ (rs : List Row). rowsFrom rs (f .count)) (is .rows e ∙ ap (λ (kept : List (List Row)). leastLoaded (choices kept)) same-rows))

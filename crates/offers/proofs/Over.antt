@@ -6,7 +6,7 @@ use mathlib.Core.Path.{_≡_, refl, sym}
 use mathlib.Core.Bool.{Bool, true, false, not, false≢true}
 use mathlib.Core.List.{List, [], _∷_, map, List·Memᴰ, List·Memᴰ·head, List·Memᴰ·tail}
 use lib.ListN.{length}
-use borrow.Author.Tests.{ltb-true}
+use borrow.Author.Tests.{ltb-true, lt-ltb}
 use Rattle.least.specs.Each.{Each, none, more}
 use Rattle.least.specs.Lists.{sum, some, isEmpty, countFrom}
 use Rattle.least.proofs.Lists.{some-none, not-empty, map-iff, count-from}
@@ -50,9 +50,14 @@ module _ (f : PlanFile) where
   unfolding sharesFrom
   from-0 = let e : f .count - 0 ≡ f .count = omega arith in rw e refl
 
-  pub shares-all : (share : ℕ) → share + sharesFrom (f .count) ≡ sharesFrom 0 → share ≡ sum (utilisations f (f .count))
+  shares-all : (share k : ℕ) → k ≡ f .count → share + sharesFrom k ≡ sharesFrom 0 → share ≡ sum (utilisations f (f .count))
   unfolding sharesFrom countFrom sum
-  shares-all share e = let z : f .count - f .count ≡ 0 = omega arith in omega (arith, rw z at e, from-0)
+  shares-all share k q e = let z : f .count - k ≡ 0 = omega arith in omega (arith, rw z at e, from-0)
+
+  -- the shares of all parts are more than the processor
+  pub shares-over : (share k : ℕ) → k ≡ f .count → share + sharesFrom k ≡ sharesFrom 0 → slopeScale < share → isOver f ≡ true
+  unfolding isOver
+  shares-over share k q e h = lt-ltb slopeScale (sum (utilisations f (f .count))) (omega (arith, shares-all share k q e))
 
   -- whether the part at the place k has a kept pair
   pub pair-some : (k : ℕ) → hasPair (partitionOf (partIn f k)) ≡ true → 1 ≤ length (listIn f k)

@@ -17,7 +17,7 @@ ghost use Rattle.refusal.specs.Code.Limits.{offerPlaces};
 ghost use Rattle.load.specs.Code.ByColumn.{rowsBy, FineColumns};
 ghost use Rattle.load.specs.Code.Weigh.{rowsFrom};
 ghost use Rattle.answers.specs.Plan.{chosenRows};
-ghost use Rattle.offers.specs.Code.Gathered.{FineParts, budgetIn, holdingIn, Stored, MissingIs, Gathered, isOver};
+ghost use Rattle.offers.specs.Code.Gathered.{FineParts, budgetIn, holdingIn, Stored, MissingIs, isOver};
 ghost use Rattle.offers.specs.Code.Least.{noRows, partitionsIn, planRowsFrom};
 
 // The pairs of the part k at its places.
@@ -33,48 +33,6 @@ fn store(kept: Kept, k: usize, budgets: &mut [u64], holdings: &mut [u64])
         budgets[at] = pair.budget;
         holdings[at] = pair.holding;
         i += 1;
-    }
-}
-
-// The rows that each part offers: its period, the count of its kept pairs, and the pairs; and the number of the first part without one, from 1, or 0.
-pub struct Offers {
-    pub missing: usize,
-    pub periods: [u64; 16],
-    pub counts: [usize; 16],
-    pub budgets: [u64; OFFER_PLACES],
-    pub holdings: [u64; OFFER_PLACES],
-}
-
-pub fn offers_of(f: PlanFile) -> Offers
-    requires { ⌜ FineParts f ⌝ }
-    ensures { λ o. ⌜ Gathered f o ⌝ }
-{
-    let mut periods = [0u64; 16];
-    let mut counts = [0usize; 16];
-    let mut budgets = [0u64; OFFER_PLACES];
-    let mut holdings = [0u64; OFFER_PLACES];
-    let mut missing = 0;
-    let mut k = 0;
-    while k < f.count {
-        let p = f.parts[k];
-        let part = p.part;
-        let kept = candidates::kept_of(part);
-        let count = kept.count;
-        if count == 0 {
-            missing = k + 1;
-            break;
-        }
-        store(kept, k, &mut budgets, &mut holdings);
-        periods[k] = part.period;
-        counts[k] = count;
-        k += 1;
-    }
-    Offers {
-        missing,
-        periods,
-        counts,
-        budgets,
-        holdings,
     }
 }
 
@@ -142,21 +100,6 @@ fn first_missing(f: PlanFile) -> usize
     0
 }
 
-// Whether the tasks of all parts together ask for more than the processor: no choice passes then.
-fn is_over(f: PlanFile) -> bool
-    requires { ⌜ FineParts f ⌝ }
-    ensures { λ r. ⌜ r ≡ isOver f ⌝ }
-{
-    let mut share: u64 = 0;
-    let mut k = 0;
-    while k < f.count {
-        let p = f.parts[k];
-        share += utilisation::share_of(p.part);
-        k += 1;
-    }
-    SCALE < share
-}
-
 // Questions 10 and 11 where the parts ask for more than the processor: no kept list is needed.
 fn over_rows(f: PlanFile) -> PlanRows
     requires { ⌜ FineParts f × (isOver f ≡ true) ⌝ }
@@ -169,24 +112,43 @@ fn over_rows(f: PlanFile) -> PlanRows
     no_rows(Refusal::NoChoice)
 }
 
-// Questions 10 and 11 of a file that was read, and the rows of least load.
+// Questions 10 and 11 of a file that was read, and the rows of least load. That the tasks of all parts together ask for no more than the processor is looked at
+// first; the kept lists are gathered in arrays that stand here, as a function or a struct of their own would copy the file or the lists.
 pub fn plan_rows(f: PlanFile) -> PlanRows
     requires { ⌜ FineParts f × (1 ≤ f .count) ⌝ }
     ensures { λ r. ⌜ r ≡ planRowsFrom (chosenRows (partitionsIn f)) ⌝ }
 {
     let n = f.count;
-    if is_over(f) {
+    let mut share: u64 = 0;
+    let mut i = 0;
+    while i < n {
+        let p = f.parts[i];
+        share += utilisation::share_of(p.part);
+        i += 1;
+    }
+    if SCALE < share {
         return over_rows(f);
     }
-    let offers = offers_of(f);
-    let missing = offers.missing;
-    if missing != 0 {
-        return no_rows(Refusal::NoBudget(missing as u64));
+    let mut periods = [0u64; 16];
+    let mut counts = [0usize; 16];
+    let mut budgets = [0u64; OFFER_PLACES];
+    let mut holdings = [0u64; OFFER_PLACES];
+    let mut k = 0;
+    while k < n {
+        let p = f.parts[k];
+        let part = p.part;
+        let kept = candidates::kept_of(part);
+        let count = kept.count;
+        if count == 0 {
+            let number = k + 1;
+            return no_rows(Refusal::NoBudget(number as u64));
+        }
+        store(kept, k, &mut budgets, &mut holdings);
+        periods[k] = part.period;
+        counts[k] = count;
+        k += 1;
     }
-    let periods = offers.periods;
-    let counts = offers.counts;
-    let holdings = offers.holdings;
-    let choice = selection::select(&periods, &offers.budgets, &holdings, &counts, n);
+    let choice = selection::select(&periods, &budgets, &holdings, &counts, n);
     if !choice.found {
         return no_rows(Refusal::NoChoice);
     }

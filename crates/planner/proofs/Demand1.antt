@@ -20,7 +20,7 @@ use Rattle.plan_file.specs.Numbers.{PlanPart, partsOf}
 use Rattle.plan_file.proofs.Reading.{parts-refused-iff}
 use Rattle.answers.specs.declared.Planned.{Planned}
 use Rattle.answers.specs.Answers.{planOf, planned, bufferAfter, HandedOver, PlanAnswered}
-use Rattle.planning.proofs.Answering.{plan-unread}
+use Rattle.answers.proofs.PlanRows.{plan-unread}
 use Rattle.planner.specs.Demand1.{OfTheFile, OfThePlan, Demand1}
 use Rattle.planner.specs.Refusals.{RefusedBehind}
 use Rattle.planner.specs.Demand3.{Demanded}

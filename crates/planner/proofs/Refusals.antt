@@ -36,8 +36,7 @@ use Rattle.plan_file.proofs.Refusals.{read-refused-of-file}
 use Rattle.answers.specs.Answers.{planOf, isPartNumber, candidatesOf, nameOf, supplyAnswer, supplied, listedIn, keptAt}
 use Rattle.answers.specs.Choice.{WithoutBudget}
 use Rattle.answers.specs.Plan.{partitions, offered, chosenRows, chosenPlan, planFile}
-use Rattle.answers.proofs.PlanRows.{everyKept, keptChoices, text, refused-10, refused-11, planned-or-14}
-use Rattle.planning.proofs.Answering.{plan-unread}
+use Rattle.answers.proofs.PlanRows.{everyKept, keptChoices, text, plan-unread, refused-10, refused-11, planned-or-14}
 use Rattle.planner.specs.Refusals.{RefusedBehind, PartOf, NotAPart, SupplyFits, EveryRefusal, planQuestions}
 use Rattle.planner.proofs.Weighing.{weighed-outcome, not-iff, wrong-count-iff, bad-row-iff, no-time-iff}
 use Rattle.planner.proofs.KeptList.{no-budget-iff}

@@ -24,7 +24,7 @@ use Rattle.answers.specs.declared.Planned.{Planned}
 use Rattle.answers.specs.Answers.{HandedOver, PlanAnswered}
 use Rattle.answers.specs.Choice.{FromKept}
 use Rattle.answers.proofs.KeptRows.{map-of-each}
-use Rattle.planning.proofs.Answering.{plan-unread}
+use Rattle.answers.proofs.PlanRows.{plan-unread}
 use Rattle.planner.specs.Demand1.{Demand1}
 use Rattle.planner.specs.Demand3.{printedRows, PrintedShare, Printed, NoBudgetAt, NoneToPlan, Demanded, Demand3}
 use Rattle.planner.specs.Demand3.NoneToPlan.{ten, eleven}

@@ -1,111 +1,106 @@
--- The plan in its struct is that of the definition, and where there is one, the file was read and its rows are those of least load.
+-- The plan of a file, from what was read of it and its rows: its parts are those read, its rows are built from kept pairs, and they pass the system test.
 -- Assumes nothing.
 use Prim.Native.Nat.{ℕ, _≤_}
 use native.Mathlib.Omega.{arith}
-use mathlib.Core.Path.{_≡_, refl, sym, ap, ap₂, _∙_}
+use mathlib.Core.Path.{_≡_, refl, sym, ap, _∙_}
+use mathlib.Core.Bool.{true}
 use mathlib.Core.List.{List}
 use lib.ListN.{length, length-map}
 use Rattle.least.proofs.Each.{length-equal}
-use Rattle.least.proofs.Pad.{take-pad}
-use Rattle.refusal.specs.declared.Refusal.{Refusal}
+use Rattle.least.proofs.Pad.{length-pad, take-pad}
 use Rattle.refusal.specs.declared.Outcome.{Outcome}
 use Rattle.refusal.specs.declared.Outcome.the-variants.{Done, Refused}
-use Rattle.refusal.specs.Questions.{Answer, whenAnswered}
+use Rattle.refusal.specs.Limits.{rowLimit}
+use Rattle.refusal.specs.Questions.{Answer, whenAnswered, whenDone}
 use Rattle.refusal.specs.Questions.Answer.{answered, refused}
 use Rattle.refusal.proofs.Answers.{answered-not-refused, done-not-refused}
 use Rattle.task_set.specs.Partition.{Partition}
 use Rattle.load.specs.declared.Row.{Row}
-use Rattle.load.specs.Load.{row}
+use Rattle.load.specs.declared.Rows.{Rows}
+use Rattle.load.specs.Load.{row, passesSystem}
 use Rattle.load.specs.Weigh.{rowsOf}
 use Rattle.load.specs.Code.Weigh.{rowsFrom}
 use Rattle.plan_file.specs.Numbers.{PlanPart, partsOf}
 use Rattle.reader.specs.declared.PlanFile.{PlanFile}
-use Rattle.reader.specs.Code.Reader.{partsIn, ReadIs}
-use Rattle.reader.proofs.Handed.{handed-refused, handed-done, parts-count}
-use Rattle.answers.specs.Plan.{partitions, leastRows, chosenRows, chosenPlan, planFile}
-use Rattle.answers.proofs.PlanRows.{RowsChosen, rows-answered, leastRows-kept}
+use Rattle.reader.specs.Code.Reader.{partsIn, fileOf, ReadIs}
+use Rattle.reader.proofs.Handed.{handed-done, parts-count}
+use Rattle.answers.specs.Plan.{Plan, partitions, chosenRows, chosenPlan, planFile}
+use Rattle.answers.specs.Choice.{BuiltFromKept}
+use Rattle.answers.proofs.PlanRows.{RowsChosen, rows-answered, leastRows-kept, leastRows-passes}
 use Rattle.offers.specs.declared.PlanRows.{PlanRows}
-use Rattle.offers.specs.Code.Least.{partitionsIn, noRows, planRowsFrom}
-use Rattle.planning.specs.declared.Chosen.{Chosen}
-use Rattle.planning.specs.Code.Chosen.{planWhen, rowsOfFile, ChosenIs}
+use Rattle.offers.specs.Code.Least.{partitionsIn, planRowsFrom}
+use Rattle.planning.specs.Code.Chosen.{rowsRead, PlanIs}
 use Rattle.planning.proofs.Planning.{partitions-same}
 
--- rows of which there are few, in their struct and out of it
-rows-again : (rows : List Row) → length rows ≤ 16 → rowsOf (rowsFrom rows (length rows)) ≡ rows
-unfolding rowsOf
-rows-again rows few = take-pad 16 (row 0 0 0) rows few
+-- the plan of these parts with these rows
+abbrev pub planWith : List PlanPart → Answer (List Row) → Answer Plan
+planWith ps a = whenAnswered a (λ rows. answered (record { parts = ps; rows = rows }))
 
--- what was read is refused
-module _ (s : List ℕ) (f : PlanFile) (is : ReadIs s f) (r : Refusal) (e : f .outcome ≡ Refused r) where
-  unread : rowsOfFile s ≡ refused r
-  unfolding whenAnswered
-  unread = rw (handed-refused s f is r e) refl
+pub plan-read : (s : List ℕ) (f : PlanFile) → ReadIs s f → planFile s ≡ planWith (partsIn s f) (rowsRead f)
+unfolding planFile fileOf whenAnswered whenDone chosenPlan
+plan-read s f is = ap (λ (a : Answer (List PlanPart)). whenAnswered a chosenPlan) (sym (is .value)) ∙ go (f .outcome)
+  where
+    go : (o : Outcome) → whenAnswered (whenDone o (answered (partsIn s f))) chosenPlan ≡ planWith (partsIn s f) (whenDone o (chosenRows (partitionsIn f)))
+    go Done = ap (λ (vs : List Partition). planWith (partsIn s f) (chosenRows vs)) (partitions-same s f is)
+    go (Refused r) = refl
 
-  pub chosen-unread : ChosenIs s (record { outcome = Refused r; file = f; rows = noRows r .rows })
-  unfolding planWhen planRowsFrom planFile whenAnswered
-  chosen-unread = record { plan = rw (handed-refused s f is r e) refl; read = is; rows = sym (ap planRowsFrom unread) }
-
--- the rows of a file that was read
-module _ (s : List ℕ) (f : PlanFile) (is : ReadIs s f) (done : f .outcome ≡ Done) where
+module _ (s : List ℕ) (f : PlanFile) (rows : Rows) (is : PlanIs s f rows) where
   abbrev ps : List PlanPart
   ps = partsIn s f
 
   abbrev vs : List Partition
   vs = partitions ps
 
-  pub rows-read : rowsOfFile s ≡ chosenRows vs
-  unfolding whenAnswered
-  rows-read = rw (handed-done s f is done) refl
-
-  plan-read : planFile s ≡ chosenPlan ps
-  unfolding planFile whenAnswered
-  plan-read = rw (handed-done s f is done) refl
-
-  few-rows : (rows : List Row) → chosenRows vs ≡ answered rows → length rows ≡ f .count
-  few-rows rows e =
-      let c = rows-answered vs rows e in
-      omega (arith, ap length (c .are), length-equal (leastRows-kept vs (c .passing)), length-map ps (λ p. p .numbers), parts-count s f is)
-
-  -- the plan of the rows in their struct
-  plan-of : (a : Answer (List Row)) → chosenRows vs ≡ a → planWhen (planRowsFrom a .outcome) (record { parts = ps; rows = rowsOf (planRowsFrom a .rows) }) ≡ chosenPlan ps
-  unfolding planRowsFrom planWhen chosenPlan whenAnswered
-  plan-of (answered rows) e = ap (λ (rs : List Row). answered (record { parts = ps; rows = rs })) (rows-again rows (omega (arith, few-rows rows e, is .few))) ∙ sym (ap (λ (a : Answer (List Row)). whenAnswered a (λ rs. answered (record { parts = ps; rows = rs }))) e)
-  plan-of (refused r) e = sym (ap (λ (a : Answer (List Row)). whenAnswered a (λ rs. answered (record { parts = ps; rows = rs }))) e)
-
-  pub chosen-read : (p : PlanRows) → p ≡ planRowsFrom (chosenRows (partitionsIn f)) → ChosenIs s (record { outcome = p .outcome; file = f; rows = p .rows })
-  chosen-read p e =
-      let are : p ≡ planRowsFrom (chosenRows vs) = e ∙ ap (λ (ws : List Partition). planRowsFrom (chosenRows ws)) (sym (partitions-same s f is)) in
-      record {
-        plan = ap (λ (q : PlanRows). planWhen (q .outcome) (record { parts = ps; rows = rowsOf (q .rows) })) are ∙ plan-of (chosenRows vs) refl ∙ sym plan-read;
-        read = is;
-        rows = are ∙ ap planRowsFrom (sym rows-read);
-      }
-
--- a plan that was chosen
-module _ (s : List ℕ) (c : Chosen) (is : ChosenIs s c) (done : c .outcome ≡ Done) where
-  answered-rows : (a : Answer (List Row)) → rowsOfFile s ≡ a → (rows : List Row) × (rowsOfFile s ≡ answered rows) × (c .rows ≡ rowsFrom rows (length rows))
+  rows-there : (rs : List Row) × (rowsRead f ≡ answered rs) × (rows ≡ rowsFrom rs (length rs))
   unfolding planRowsFrom
-  answered-rows (answered rows) e = (rows, e, ap (λ (p : PlanRows). p .rows) (is .rows ∙ ap planRowsFrom e))
-  answered-rows (refused r) e = absurd (done-not-refused (sym done ∙ ap (λ (p : PlanRows). p .outcome) (is .rows ∙ ap planRowsFrom e)))
-
-  pub readable : c .file .outcome ≡ Done
-  unfolding whenAnswered
-  readable = go (c .file .outcome) refl
+  rows-there = go (rowsRead f) refl
     where
-      go : (o : Outcome) → c .file .outcome ≡ o → c .file .outcome ≡ Done
+      go : (a : Answer (List Row)) → rowsRead f ≡ a → (rs : List Row) × (rowsRead f ≡ answered rs) × (rows ≡ rowsFrom rs (length rs))
+      go (answered rs) e = (rs, e, ap (λ (p : PlanRows). p .rows) (sym (is .chosen) ∙ ap planRowsFrom e))
+      go (refused r) e = absurd (done-not-refused (ap (λ (p : PlanRows). p .outcome) (sym (is .chosen) ∙ ap planRowsFrom e)))
+
+  abbrev R : List Row
+  R = rows-there .0
+
+  pub readable : f .outcome ≡ Done
+  unfolding whenDone
+  readable = go (f .outcome) refl
+    where
+      go : (o : Outcome) → f .outcome ≡ o → f .outcome ≡ Done
       go Done e = e
-      go (Refused r) e =
-          let a = answered-rows (rowsOfFile s) refl in
-          absurd (answered-not-refused (sym (a .1) ∙ unread s (c .file) (is .read) r e))
+      go (Refused r) e = absurd (answered-not-refused (sym (rows-there .1) ∙ ap (λ (o : Outcome). whenDone o (chosenRows (partitionsIn f))) e))
 
-  pub reads : partsOf s ≡ answered (partsIn s (c .file))
-  reads = handed-done s (c .file) (is .read) readable
+  pub reads : partsOf s ≡ answered ps
+  reads = handed-done s f (is .read) readable
 
-  pub chosen : RowsChosen (partitions (partsIn s (c .file))) (leastRows (partitions (partsIn s (c .file))))
-  chosen = let a = answered-rows (rowsOfFile s) refl in let r = rows-answered _ (a .0) (sym (rows-read s (c .file) (is .read) readable) ∙ a .1) in record { every-kept = r .every-kept; passing = r .passing; are = refl }
+  chosen : RowsChosen vs R
+  unfolding whenDone
+  chosen =
+      rows-answered vs R
+      (ap chosenRows (partitions-same s f (is .read)) ∙ sym (ap (λ (o : Outcome). whenDone o (chosenRows (partitionsIn f))) readable) ∙ rows-there .1)
 
-  pub rows-are : c .rows ≡ rowsFrom (leastRows (partitions (partsIn s (c .file)))) (c .file .count)
-  rows-are =
-      let a = answered-rows (rowsOfFile s) refl in
-      let e = sym (rows-read s (c .file) (is .read) readable) ∙ a .1 in
-      a .2 ∙ ap₂ rowsFrom (rows-answered _ (a .0) e .are) (few-rows s (c .file) (is .read) readable (a .0) e)
+  kept-there : BuiltFromKept ps R
+  kept-there = rw (chosen .are) (leastRows-kept vs (chosen .passing))
+
+  pub count-is : rows .count ≡ f .count
+  count-is = omega (arith, ap (λ (x : Rows). x .count) (rows-there .2), length-equal kept-there, length-map ps (λ p. p .numbers), parts-count s f (is .read))
+
+  rows-are : rowsOf rows ≡ R
+  unfolding rowsOf
+  rows-are = ap rowsOf (rows-there .2) ∙ take-pad rowLimit (row 0 0 0) R (omega (arith, ap (λ (x : Rows). x .count) (rows-there .2), count-is, is .read .few))
+
+  pub rows-room : f .count ≤ length (rows .rows)
+  rows-room = omega (arith, ap (λ (x : Rows). length (x .rows)) (rows-there .2), length-pad rowLimit (row 0 0 0) R, is .read .few)
+
+  pub plan-is : planFile s ≡ answered (record { parts = ps; rows = rowsOf rows })
+  unfolding whenAnswered
+  plan-is = plan-read s f (is .read) ∙ ap (planWith ps) (rows-there .1 ∙ ap answered (sym rows-are))
+
+  pub kept : BuiltFromKept ps (rowsOf rows)
+  kept = rw rows-are kept-there
+
+  pub passes : passesSystem (rowsOf rows) ≡ true
+  passes = rw rows-are (rw (chosen .are) (leastRows-passes vs (chosen .passing)))
+
+  pub rows-length : length (rowsOf rows) ≡ f .count
+  rows-length = omega (arith, length-equal kept, length-map ps (λ p. p .numbers), parts-count s f (is .read))

@@ -1,58 +1,36 @@
 // The plan of a file, and its listing in the lent bytes.
 use answers::Planned;
 use load::Rows;
+use offers::PlanRows;
 use reader::PlanFile;
 use refusal::Outcome;
 use refusal::Refusal;
 ghost use mathlib.Core.Path.{_≡_};
+ghost use Prim.Native.Nat.{_≤_};
 ghost use Rattle.refusal.specs.declared.Outcome.the-variants.{Done};
 ghost use Rattle.answers.specs.Answers.{PlanAnswered};
-ghost use Rattle.planning.specs.Code.Chosen.{ChosenIs};
+ghost use Rattle.offers.specs.Code.Gathered.{FineParts};
+ghost use Rattle.offers.specs.Code.Least.{planRowsFrom};
+ghost use Rattle.planning.specs.Code.Chosen.{rowsRead, PlanIs};
 
-// The plan that was chosen for a file: what was read of it, and the rows of its parts; or the refusal, and no rows.
-pub struct Chosen {
-    pub outcome: Outcome,
-    pub file: PlanFile,
-    pub rows: Rows,
-}
-
-// The plan of a file: questions 1 to 11.
-pub fn choose(file: &[u8]) -> Chosen
-    ensures { λ r. ⌜ ChosenIs (now (file .entry)) r ⌝ }
+// The rows of the plan of what was read: questions 1 to 11. What was read and its rows are the plan of the file.
+pub fn choose(f: PlanFile) -> PlanRows
+    requires { ⌜ (f .outcome ≡ Done → FineParts f × (1 ≤ f .count)) ⌝ }
+    ensures { λ r. ⌜ r ≡ planRowsFrom (rowsRead f) ⌝ }
 {
-    let f = reader::read_file(file, 1);
     let o = f.outcome;
     match o {
-        Outcome::Refused(r) => {
-            let none = offers::no_rows(r);
-            let rows = none.rows;
-            Chosen {
-                outcome: Outcome::Refused(r),
-                file: f,
-                rows,
-            }
-        }
-        Outcome::Done => {
-            let p = offers::plan_rows(f);
-            let outcome = p.outcome;
-            let rows = p.rows;
-            Chosen {
-                outcome,
-                file: f,
-                rows,
-            }
-        }
+        Outcome::Refused(r) => offers::no_rows(r),
+        Outcome::Done => offers::plan_rows(f),
     }
 }
 
 // The listing of a plan, if it fits: question 14. The ceilings shown are worked out once, those of the part at the place k from the place 8 k on; they stand here
 // and not in a function of their own, which would copy the file.
-fn print_plan(file: &[u8], c: Chosen, out: &mut [u8]) -> Planned
-    requires { ⌜ ChosenIs (now file) c × (c .outcome ≡ Done) ⌝ }
+fn print_plan(file: &[u8], f: PlanFile, rows: Rows, out: &mut [u8]) -> Planned
+    requires { ⌜ PlanIs (now file) f rows ⌝ }
     ensures { λ r. ⌜ PlanAnswered (now (file .entry)) (now (out .entry)) r (now (out .exit)) ⌝ }
 {
-    let f = c.file;
-    let rows = c.rows;
     let n = f.count;
     let mut ceilings = [0u64; 128];
     let mut k = 0;
@@ -83,13 +61,14 @@ fn print_plan(file: &[u8], c: Chosen, out: &mut [u8]) -> Planned
 pub fn plan(file: &[u8], out: &mut [u8]) -> Planned
     ensures { λ r. ⌜ PlanAnswered (now (file .entry)) (now (out .entry)) r (now (out .exit)) ⌝ }
 {
-    let c = choose(file);
-    let o = c.outcome;
+    let f = reader::read_file(file, 1);
+    let p = choose(f);
+    let o = p.outcome;
     match o {
         Outcome::Refused(r) => Planned {
             outcome: Outcome::Refused(r),
             written: 0,
         },
-        Outcome::Done => print_plan(file, c, out),
+        Outcome::Done => print_plan(file, f, p.rows, out),
     }
 }

@@ -33,7 +33,7 @@ use Rattle.plan_file.proofs.Reading.{parts-answered-iff}
 use Rattle.plan_file.proofs.PlanParts.{FinePlanPart, parts-fine, parts-few}
 use Rattle.listing.proofs.Lengths.{listingLimit}
 use Rattle.answers.specs.Answers.{planOf}
-use Rattle.planning.proofs.Answering.{plan-unread}
+use Rattle.answers.proofs.PlanRows.{plan-unread}
 use Rattle.planner.specs.Demand3.{Demanded}
 use Rattle.planner.specs.Demand3.Demanded.{none-passes, fits, too-long}
 use Rattle.planner.specs.SystemTest.{rowAt, L}

@@ -11,22 +11,23 @@ use Rattle.least.proofs.Members.{getD-any}
 use Rattle.refusal.specs.declared.Refusal.{Refusal}
 use Rattle.refusal.specs.declared.Outcome.{Outcome}
 use Rattle.refusal.specs.declared.Outcome.the-variants.{Done, Refused}
+use Rattle.refusal.specs.Questions.{whenDone}
 use Rattle.refusal.specs.Questions.Answer.{answered, refused}
 use Rattle.plan_file.specs.Above.{noPart}
 use Rattle.plan_file.specs.Numbers.{planPart, partsOf, partAt}
 use Rattle.reader.specs.declared.PartRead.{PartRead}
 use Rattle.reader.specs.declared.PlanFile.{PlanFile}
-use Rattle.reader.specs.Code.Reader.{partOf, partsIn, answerOf, fileOf, ReadIs}
+use Rattle.reader.specs.Code.Reader.{partOf, partsIn, fileOf, ReadIs}
 
 module _ (s : List ℕ) (f : PlanFile) (is : ReadIs s f) where
   pub handed-refused : (r : Refusal) → f .outcome ≡ Refused r → partsOf s ≡ refused r
-  unfolding fileOf answerOf
-  handed-refused r e = sym (is .value) ∙ ap (λ (o : Outcome). answerOf o (partsIn s f)) e
+  unfolding fileOf whenDone
+  handed-refused r e = sym (is .value) ∙ ap (λ (o : Outcome). whenDone o (answered (partsIn s f))) e
 
   -- the parts of a readable file are those that the struct holds
   pub handed-done : f .outcome ≡ Done → partsOf s ≡ answered (partsIn s f)
-  unfolding fileOf answerOf
-  handed-done e = sym (is .value) ∙ ap (λ (o : Outcome). answerOf o (partsIn s f)) e
+  unfolding fileOf whenDone
+  handed-done e = sym (is .value) ∙ ap (λ (o : Outcome). whenDone o (answered (partsIn s f))) e
 
   pub parts-count : length (partsIn s f) ≡ f .count
   parts-count = length-map (take (f .count) (f .parts)) (partOf s) ∙ length-take-le (f .count) (f .parts) (omega (arith, is .few, is .room))

@@ -11,7 +11,7 @@ use Rattle.refusal.specs.declared.Refusal.{Refusal}
 use Rattle.refusal.specs.declared.Refusal.the-variants.{FileTooLong, BadLine, Misplaced}
 use Rattle.refusal.specs.declared.Outcome.the-variants.{Done, Refused}
 use Rattle.refusal.specs.Limits.{fileLimit}
-use Rattle.refusal.specs.Questions.{ask, firstNo, Answer}
+use Rattle.refusal.specs.Questions.{ask, firstNo, Answer, whenDone}
 use Rattle.refusal.specs.Questions.Answer.{answered, refused}
 use Rattle.refusal.proofs.Questions.{yes-next, no-answers}
 use Rattle.stretch.specs.declared.Span.{Span}
@@ -33,7 +33,7 @@ use Rattle.plan_file.proofs.Reading.{read-next, read-stop, read-too-long, read-
 use Rattle.plan_file.proofs.SeenAbove.{seen-is-fine, part-count}
 use Rattle.plan_file.proofs.SeenEntered.{AllDone, refused-entered}
 use Rattle.reader.specs.declared.PartRead.{PartRead}
-use Rattle.reader.specs.Code.Reader.{partOf, answerOf, fileOf, noPartRead, refusedFile}
+use Rattle.reader.specs.Code.Reader.{partOf, fileOf, noPartRead, refusedFile}
 use Rattle.reader.proofs.Stands.{Stands, stands-start}
 use Rattle.reader.proofs.Spans.{Spanned, spanned-start, spanned-all}
 
@@ -83,7 +83,7 @@ pub turn-shortens : (s : List ℕ) (c : Cursor) (r : Shape) (next : Cursor) → 
 turn-shortens s c r next at = omega arith
 
 pub refused-file : (s : List ℕ) (x : Refusal) → fileOf s (refusedFile x) ≡ refused x
-unfolding fileOf refusedFile answerOf
+unfolding fileOf refusedFile whenDone
 refused-file s x = refl
 
 module _ {n : ℕ} (s : List ℕ) (c : Cursor) (seen : Seen) (opened : ℕ) (name : Span) (period : ℕ) (tasks : List Task) (all : List PartRead) (reading : Reading n s c seen opened name period tasks all) where
@@ -121,7 +121,7 @@ module _ {n : ℕ} (s : List ℕ) (c : Cursor) (seen : Seen) (opened : ℕ) (nam
       ends-refused (Misplaced (c .line)) (none-left h ∙ simp not-end)
 
   pub reading-done : length s ≤ c .at → seen .ended ≡ true → fileOf s (record { outcome = Done; parts = all; count = seen .parts .count }) ≡ numbered (readFrom n s)
-  unfolding fileOf answerOf numbered
+  unfolding fileOf whenDone numbered
   reading-done h e =
       let at-end : isEnd (a .directly) ≡ true = sym (reading .stands .seen-is .ended) ∙ e in
       ap (λ (n : ℕ). answered (map (partOf s) (take n all))) (sym (part-count s seen a (reading .stands .seen-is)))

@@ -8,7 +8,6 @@
 --   MissingIs f m    == m is the number, from 1, of the first part without a kept pair, or 0
 --   utilisations f n == for how much of the processor each of the first n parts asks, in parts of slopeScale, rounded down
 --   isOver f         == the tasks of all parts together ask for more than the processor
---   Gathered f o     == o holds those of all parts, or its `missing` is that number
 -- Assumes nothing.
 use Prim.Native.Nat.{ℕ, suc, _+_, _*_, _≤_, _<_}
 use mathlib.Core.Path.{_≡_}
@@ -30,7 +29,6 @@ use Rattle.candidates.specs.declared.Kept.{Kept}
 use Rattle.candidates.specs.Candidates.{pair, keptList}
 use Rattle.reader.specs.declared.PlanFile.{PlanFile}
 use Rattle.reader.specs.Code.Reader.{blankPart}
-use Rattle.offers.specs.declared.Offers.{Offers}
 
 abbrev pub partIn : PlanFile → ℕ → Part
 partIn f k = getD (f .parts) k blankPart .part
@@ -74,7 +72,3 @@ utilisations f n = map (λ k. shareIn (tasksOf (partIn f k))) (countFrom 0 n)
 
 unfoldable pub isOver : PlanFile → Bool
 isOver f = ltb slopeScale (sum (utilisations f (f .count)))
-
-pub record Gathered (f : PlanFile) (o : Offers) : Type 0 where
-  pub all : o .missing ≡ 0 → (k : ℕ) → k < f .count → OfferedAt f (o .periods) (o .counts) (o .budgets) (o .holdings) k
-  pub first : MissingIs f (o .missing)

@@ -1,35 +1,22 @@
--- The plan of a file in its struct.
---   planIn s c    == the plan that the struct `Chosen` holds of the file s, or the refusal
---   rowsOfFile s  == the rows of the plan of the file s, or the first no among questions 1 to 11
---   ChosenIs s c  == c holds the plan of the file s: what was read of it, and these rows; or the refusal
+-- The plan of a file in its structs: what was read of it, and the rows that were chosen.
+--   rowsRead f      == the rows of the plan of what was read, or the refusal of the first no among questions 1 to 11
+--   PlanIs s f rows == f is what was read of the file s, and rows are those of its plan
 -- Assumes nothing.
 use Prim.Native.Nat.{ℕ}
 use mathlib.Core.Path.{_≡_}
 use mathlib.Core.List.{List}
-use Rattle.refusal.specs.declared.Outcome.{Outcome}
-use Rattle.refusal.specs.declared.Outcome.the-variants.{Done, Refused}
-use Rattle.refusal.specs.Questions.{Answer, whenAnswered}
-use Rattle.refusal.specs.Questions.Answer.{answered, refused}
+use Rattle.refusal.specs.declared.Outcome.the-variants.{Done}
+use Rattle.refusal.specs.Questions.{Answer, whenDone}
 use Rattle.load.specs.declared.Row.{Row}
-use Rattle.load.specs.Weigh.{rowsOf}
-use Rattle.plan_file.specs.Numbers.{partsOf}
-use Rattle.reader.specs.Code.Reader.{partsIn, ReadIs}
-use Rattle.answers.specs.Plan.{Plan, partitions, chosenRows, planFile}
-use Rattle.offers.specs.declared.PlanRows.{PlanRows}
-use Rattle.offers.specs.Code.Least.{planRowsFrom}
-use Rattle.planning.specs.declared.Chosen.{Chosen}
+use Rattle.load.specs.declared.Rows.{Rows}
+use Rattle.reader.specs.declared.PlanFile.{PlanFile}
+use Rattle.reader.specs.Code.Reader.{ReadIs}
+use Rattle.answers.specs.Plan.{chosenRows}
+use Rattle.offers.specs.Code.Least.{partitionsIn, planRowsFrom}
 
-unfoldable pub planWhen : Outcome → Plan → Answer Plan
-planWhen Done plan = answered plan
-planWhen (Refused r) plan = refused r
+abbrev pub rowsRead : PlanFile → Answer (List Row)
+rowsRead f = whenDone (f .outcome) (chosenRows (partitionsIn f))
 
-abbrev pub planIn : List ℕ → Chosen → Answer Plan
-planIn s c = planWhen (c .outcome) (record { parts = partsIn s (c .file); rows = rowsOf (c .rows) })
-
-abbrev pub rowsOfFile : List ℕ → Answer (List Row)
-rowsOfFile s = whenAnswered (partsOf s) (λ ps. chosenRows (partitions ps))
-
-pub record ChosenIs (s : List ℕ) (c : Chosen) : Type 0 where
-  pub plan : planIn s c ≡ planFile s
-  pub read : ReadIs s (c .file)
-  pub rows : _≡_ {A = PlanRows} (record { outcome = c .outcome; rows = c .rows }) (planRowsFrom (rowsOfFile s))
+pub record PlanIs (s : List ℕ) (f : PlanFile) (rows : Rows) : Type 0 where
+  pub read : ReadIs s f
+  pub chosen : planRowsFrom (rowsRead f) ≡ record { outcome = Done; rows = rows }

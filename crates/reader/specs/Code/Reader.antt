@@ -14,11 +14,10 @@ use mathlib.Core.List.{List, [], map}
 use lib.ListN.{length, take, set, getD}
 use Rattle.least.specs.Lists.{pad}
 use Rattle.refusal.specs.declared.Refusal.{Refusal}
-use Rattle.refusal.specs.declared.Outcome.{Outcome}
 use Rattle.refusal.specs.declared.Outcome.the-variants.{Done, Refused}
 use Rattle.refusal.specs.Limits.{partLimit, taskLimit, lockLimit}
-use Rattle.refusal.specs.Questions.{Answer}
-use Rattle.refusal.specs.Questions.Answer.{answered, refused}
+use Rattle.refusal.specs.Questions.{Answer, whenDone}
+use Rattle.refusal.specs.Questions.Answer.{answered}
 use Rattle.stretch.specs.declared.Span.{Span}
 use Rattle.stretch.specs.Stretch.{bytesOf}
 use Rattle.task_set.specs.declared.Task.{Task}
@@ -37,12 +36,8 @@ partOf s r = record { name = bytesOf s (r .name); locks = namesOf s (r .locks); 
 abbrev pub partsIn : List ℕ → PlanFile → List PlanPart
 partsIn s f = map (partOf s) (take (f .count) (f .parts))
 
-unfoldable pub answerOf : Outcome → List PlanPart → Answer (List PlanPart)
-answerOf Done ps = answered ps
-answerOf (Refused r) ps = refused r
-
 unfoldable pub fileOf : List ℕ → PlanFile → Answer (List PlanPart)
-fileOf s f = answerOf (f .outcome) (partsIn s f)
+fileOf s f = whenDone (f .outcome) (answered (partsIn s f))
 
 -- a part with all that was read of it, and one of which nothing was read
 unfoldable pub closedPart : Span → ℕ → List Task → ℕ → Names → PartRead
