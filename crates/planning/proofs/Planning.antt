@@ -11,11 +11,13 @@ use Rattle.least.proofs.Lists.{nth-get}
 use Rattle.refusal.specs.declared.Outcome.the-variants.{Done}
 use Rattle.writer.specs.Code.Written.{written, Written}
 use Rattle.plan_file.specs.Numbers.{PlanPart}
+use Rattle.plan_file.proofs.PlanParts.{parts-some}
 use Rattle.listing.specs.Listing.{Share, shareLines, loadLine, listingOf}
 use Rattle.listing.proofs.Shares.{load-share}
 use Rattle.reader.specs.declared.PlanFile.{PlanFile}
 use Rattle.reader.specs.Code.Reader.{blankPart, partOf, partsIn, ReadIs}
 use Rattle.reader.proofs.Fine.{counts-at, handed-fine}
+use Rattle.reader.proofs.Handed.{handed-done, parts-count}
 use Rattle.answers.specs.Plan.{partitions}
 use Rattle.offers.specs.Code.Gathered.{FineParts}
 use Rattle.offers.specs.Code.Least.{partitionsIn}
@@ -34,7 +36,7 @@ module _ (s : List ℕ) (f : PlanFile) (is : ReadIs s f) where
     pub each-fine : EachFine f
     each-fine k l = handed-fine s f is done k blankPart l .fine
 
-    pub parts-fine : FineParts f
+    parts-fine : FineParts f
     parts-fine = record {
       few = is .few;
       room = is .room;
@@ -42,6 +44,10 @@ module _ (s : List ℕ) (f : PlanFile) (is : ReadIs s f) where
       period-some = λ k l. handed-fine s f is done k blankPart l .period-some;
       period-most = λ k l. handed-fine s f is done k blankPart l .period-most;
     }
+
+    -- what `choose` asks for
+    pub to-choose : FineParts f × (1 ≤ f .count)
+    to-choose = (parts-fine, omega (arith, parts-count s f is, parts-some s (partsIn s f) (handed-done s f is done)))
 
 -- the load line is that of the first share that reaches the load
 pub listing-same : (shares : List Share) (k : ℕ) → 1 ≤ k → firstOf (atMost (greatestOf (map (λ x. x .bound) shares))) (map (λ x. x .bound) shares) ≡ k → listingAt k shares ≡ listingOf shares

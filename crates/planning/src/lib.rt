@@ -13,7 +13,7 @@ ghost use Rattle.offers.specs.Code.Gathered.{FineParts};
 ghost use Rattle.offers.specs.Code.Least.{planRowsFrom};
 ghost use Rattle.planning.specs.Code.Chosen.{rowsRead, PlanIs};
 
-// The rows of the plan of what was read: questions 1 to 11. What was read and its rows are the plan of the file.
+// The rows of the plan of a file that was read, or its refusal: 1 to 9 are the reader's, 10 and 11 are asked here. What was read and these rows are the plan.
 pub fn choose(f: PlanFile) -> PlanRows
     requires { ⌜ (f .outcome ≡ Done → FineParts f × (1 ≤ f .count)) ⌝ }
     ensures { λ r. ⌜ r ≡ planRowsFrom (rowsRead f) ⌝ }

@@ -1,14 +1,10 @@
 -- `planning::plan` meets its contract: the refusal of the reader or of the choice, or the listing.
 -- Assumes nothing.
-use native.Mathlib.Omega.{arith}
 use mathlib.Core.Path.{sym, ap, _∙_}
 use borrow.Author.Needs.{needs}
 use Rattle.refusal.specs.declared.Outcome.{Outcome}
-use Rattle.plan_file.proofs.PlanParts.{parts-some}
-use Rattle.reader.specs.Code.Reader.{partsIn}
-use Rattle.reader.proofs.Handed.{handed-done, parts-count}
 use Rattle.offers.specs.declared.PlanRows.{PlanRows}
-use Rattle.planning.proofs.Planning.{parts-fine}
+use Rattle.planning.proofs.Planning.{to-choose}
 use Rattle.planning.proofs.Answering.{none-chosen}
 use Rattle.planning.proofs.plan.Statement.{statement}
 use Rattle.planning.proofs.plan.Tie as tie
@@ -17,10 +13,7 @@ read-file-requires : tie.Need-read-file-requires
 read-file-requires c κs = search needs
 
 choose-requires : tie.Need-choose-requires
-choose-requires c κs =
-    let s = c .before .before .before .args .file .now in
-    let f = c .read-file in
-    λ done. (parts-fine s (f .result) (f .ensures) done, omega (arith, parts-count s (f .result) (f .ensures), parts-some s (partsIn s (f .result)) (handed-done s (f .result) (f .ensures) done)))
+choose-requires c κs = to-choose (c .before .before .before .args .file .now) (c .read-file .result) (c .read-file .ensures)
 
 enum-known-o : tie.Need-enum-known-o
 enum-known-o c = search needs
