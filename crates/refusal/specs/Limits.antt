@@ -4,8 +4,8 @@
 --   partLimit, taskLimit, lockLimit == parts in a file, tasks in a part, different lock names in a part
 --   rowLimit    == rows to be weighed
 --   nameLimit   == bytes in a name
+-- And one about which no question asks, as every part keeps it:
 --   keptLimit   == pairs in the kept list of a part
--- And two that follow from the kept lists, about which no question asks.
 -- Assumes nothing.
 use Prim.Native.Nat.{ℕ}
 

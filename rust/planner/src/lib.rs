@@ -47,7 +47,7 @@ pub const MOST_ROWS: usize = 16;
 pub const ROOM: usize = 8192;
 
 /// Bytes of stack that [`plan_into`] needs; [`plan`] has its listing on the heap.
-pub const STACK_PLAN: usize = 168 * 1024;
+pub const STACK_PLAN: usize = 152 * 1024;
 /// Bytes of stack that [`candidates`] needs.
 pub const STACK_CANDIDATES: usize = 66 * 1024;
 /// Bytes of stack that [`name`] needs.
