@@ -16,7 +16,7 @@ WORD = re.compile(r'"(?:\\.|[^"\\\n])*"|[^\s(){}\[\];,"]+')
 
 
 class Definition:
-    """A definition with its clauses, a record with its fields, or a data type with its constructors; and the line `module _ .. where` over it."""
+    """A definition with its clauses, a record with its fields, or a data type with its constructors; and the lines `module _ .. where` over it."""
     def __init__(self, path, name, text, head):
         self.path, self.name, self.text, self.head = path, name, text, head
         self.is_inner = '/specs/Code/' in path
@@ -35,7 +35,7 @@ def definitions(path, text, head=''):
         signature = re.match(r'(?:(?:unfoldable|abbrev|pub) )*(\S+)(?: \{[^}]*\})? :', group)
         if group.startswith('module '):
             line, _, body = group.partition('where\n')
-            found += definitions(path, re.sub('^  ', '', body, flags=re.M), line)
+            found += definitions(path, re.sub('^  ', '', body, flags=re.M), head + line)
         elif kind or signature:
             found.append(Definition(path, (kind or signature)[1], group, head))
         elif found and not re.match(r'(?:pub )?(?:use|mod) |infix', group):
@@ -47,18 +47,28 @@ def definitions(path, text, head=''):
 
 def marks(name):
     """The words by which a text names this: `_⊑_` and `⊑` for `_⊑_`."""
-    return {name, *(part for part in name.split('_') if part)} if name.startswith('_') or name.endswith('_') else {name}
+    return {name, *(part for part in name.split('_') if part)}
+
+
+def words(text):
+    """The words of a text, and of a word with dots in it, `Load.none` or `x.none`, its pieces; but no field of a record, `.none`."""
+    for word in WORD.findall(text):
+        if word[0] not in '".':
+            yield from (word, *word.split('.')) if '.' in word else (word,)
+
+
+USE = re.compile(r'^(?:(?:pub|ghost) )?use (\S+?)\.\{([^}]*)\};?$', re.M)
 
 
 def uses(text):
     """What the lines `use module.{name, name as other}` of a text take, as (module, name there, name here)."""
-    for module, items in re.findall(r'^(?:(?:pub|ghost) )?use (\S+?)\.\{([^}]*)\};?$', text, re.M):
+    for module, items in USE.findall(text):
         yield from ((module, item.split()[0], item.split()[-1]) for item in items.split(',') if item.strip())
 
 
 def unread(text):
-    """The other `use` lines that name a crate."""
-    return re.findall(r'^(?:(?:pub|ghost) )?use (?=Rattle·)(?!\S+?\.\{[^}]*\};?$).*', text, re.M)
+    """The other lines that take something from a crate, in whatever layout."""
+    return [' '.join(line.split()) for line in re.findall(r'^.*\buse\s.*Rattle·.*', USE.sub('', text), re.M)]
 
 
 def page_of(top, module):
@@ -100,9 +110,8 @@ class Pages:
 
     def named(self, path, known, text):
         """The definitions that a text of a file names."""
-        words = [word for word in WORD.findall(text) if word[0] != '"']
-        self.faults += [f'{path}: {word} stands with its whole path' for word in words if 'Rattle·' in word]
-        return [known[word] for word in words if word in known]
+        self.faults += [f'{path}: {word} stands with its whole path' for word in WORD.findall(text) if word[0] != '"' and 'Rattle·' in word]
+        return [known[word] for word in words(text) if word in known]
 
     def believed(self, promises):
         """The definitions that must be believed, each with what names it. `promises` are (who says it, the file, the words). A variable with the name

@@ -476,6 +476,11 @@ SLIPS = [
         ('noRow', f'loadOf of {LOAD}', LOAD, 'loadOf none = 0\n', 'loadOf none = noRow\nuse Rattle.load.specs.Code.Rows.{noRow}\n'),
         ('noRow', f'_⊑_ of {LOAD}', LOAD, 'refusal.specs.Limits.{numberLimit as', 'load·specs.specs.Code.Rows.{noRow as'),
         ('Row', f'every of {NAMED}', NAMED, 'Load.Load.{some as', 'Code.Rows.Row.{rowAt as'),
+        ('Row', f'loadOf of {LOAD}', LOAD, 'loadOf none = 0\n', 'loadOf none = Row.rowAt\nuse Rattle.load.specs.Code.Rows.{Row}\n'),
+        ('noRow', f'loadOf of {LOAD}', LOAD, 'loadOf none = 0\n', 'loadOf none = λ x.noRow\nuse Rattle.load.specs.Code.Rows.{noRow}\n'),
+        ('noRow', f'loadOf of {LOAD}', LOAD, 'loadOf none = 0\n', 'loadOf none = ∣ 0 ∣\nuse Rattle.load.specs.Code.Rows.{noRow as ∣_∣}\n'),
+        ('noRow', f'first of {LOAD}', LOAD, 'module _ {A : Kind} where\n  abbrev pub first : A → A\n  first a = a\n',
+         'module _ {A : Kind noRow} where\n  module _ (b : A) where\n    abbrev pub first : A → A\n    first a = a\nuse Rattle.load.specs.Code.Rows.{noRow}\n'),
     ]),
     *((check.check_believed, f'{path}: {name} does not stand in Code/, and need not be believed', path, old, new) for name, path, old, new in [
         ('spare', LOAD, '', '\nabbrev pub spare : ℕ\nspare = 0\n'), ('Spare', LOAD, '', '\npub record Spare : Type 0 where\n  pub some : ℕ\n'),
@@ -491,6 +496,9 @@ SLIPS = [
     (check.check_believed, f'{LOAD}: numberLimit is taken from a proof', LOAD, 'refusal.specs.Limits', 'refusal.proofs.Limits'),
     (check.check_believed, f'{LOAD}: Rattle.load.specs.Code.Rows.noRow stands with its whole path', LOAD, 'none = 0', 'none = Rattle.load.specs.Code.Rows.noRow'),
     (check.check_believed, f'{LOAD}: `use Rattle.load.specs.Code.Rows as rows` cannot be read', LOAD, '', 'use Rattle.load.specs.Code.Rows as rows\n'),
+    *((check.check_believed, f'{LOAD}: `use Rattle.load.specs.Code.Rows.{{noRow}}` cannot be read', LOAD, '', line + '\n') for line in [
+        'use  Rattle.load.specs.Code.Rows.{noRow}', '  use Rattle.load.specs.Code.Rows.{noRow}', 'use Rattle.load.specs.Code.Rows.{noRow} ',
+    ]),
     (check.check_believed, f'{LOAD_CODE}: `ghost use Rattle.load.specs.Code.Rows;` cannot be read', LOAD_CODE, '', 'ghost use Rattle.load.specs.Code.Rows;\n'),
     *((check.check_believed, 'README.md: it must say once that ', 'README.md', old, new) for old, new in [
         (' definitions must be believed', '0 definitions must be believed'), (' of the\n', '0 of the\n'), (' must be believed', ' may be believed'), ('', '1 of the 2 definitions must be believed.\n'),

@@ -37,7 +37,7 @@ use Rattle.plan_file.specs.Above.{noPart}
 use Rattle.plan_file.specs.Numbers.{PlanPart, planPart, partsOf, partAt}
 use Rattle.listing.specs.Listing.{shareUnder}
 use Rattle.answers.specs.Parts.{keptRows, shareOf, sharesOf}
-use Rattle.answers.specs.Plan.{Plan, partitions, offered, leastRows, chosenRows, chosenPlan, planFile, planText}
+use Rattle.answers.specs.Plan.{Plan, partitions, offered, leastRows, chosenRows, planWith, chosenPlan, planFile, planText}
 use Rattle.answers.specs.Answers.{listedIn, planOf}
 use Rattle.answers.specs.Choice.{Chosen, FromKept, PassingChoice, BuiltFromKept}
 use Rattle.answers.proofs.KeptRows.{none-kept, some-kept, keptRows-sorted, choices-kept, passing-under}
@@ -122,9 +122,8 @@ module _ (vs : List Partition) where
   unfolding chosenRows choiceQuestions whenDone firstNo
   rows-chosen e f = simp (e, f)
 
-  -- where there are rows, both have the answer yes
+  -- where there are rows, some choice passes, and they are those of least load
   pub record RowsChosen (rows : List Row) : Type 0 where
-    pub every-kept : everyKept vs ≡ true
     pub passing : some passesSystem (keptChoices vs) ≡ true
     pub are : rows ≡ leastRows vs
 
@@ -134,7 +133,7 @@ module _ (vs : List Partition) where
       go : (b : Bool) → everyKept vs ≡ b → (c : Bool) → some passesSystem (keptChoices vs) ≡ c → RowsChosen rows
       go false e c f = absurd (answered-not-refused (sym a ∙ rows-10 e))
       go true e false f = absurd (answered-not-refused (sym a ∙ rows-11 e f))
-      go true e true f = record { every-kept = e; passing = f; are = answer-same-value (sym a ∙ rows-chosen e f) }
+      go true e true f = record { passing = f; are = answer-same-value (sym a ∙ rows-chosen e f) }
 
 pub listed-or-14 : (plan : Plan) (room : ℕ) → listedIn room plan ≡ cond (leb (length (planText plan)) room) (answered (planText plan)) (refused NoRoom)
 unfolding listedIn whenDone firstNo
@@ -156,7 +155,7 @@ module _ (s : List ℕ) (ps : List PlanPart) (room : ℕ) (e : partsOf s ≡ ans
 
   -- what becomes of an answer to questions 10 and 11
   abbrev listed : Answer (List Row) → Answer (List ℕ)
-  listed a = whenAnswered (whenAnswered a (λ rows. answered (record { parts = ps; rows = rows }))) (listedIn room)
+  listed a = whenAnswered (planWith ps a) (listedIn room)
 
   plan-rows : planOf s room ≡ listed (chosenRows (partitions ps))
   unfolding chosenPlan

@@ -4,6 +4,7 @@
 --   offered vs    == the rows that each part offers: those of its kept pairs
 --   leastRows vs  == the first choice of least load among those built from kept pairs
 --   chosenRows vs == these rows, or the refusal of the first no among 10 and 11
+--   planWith ps a == the plan of these parts with these rows, or the refusal
 --   chosenPlan ps == the plan of these parts, or that refusal
 --   planFile s    == the plan of the file s, or the refusal of the first no among questions 1 to 11
 --   planText plan == its listing
@@ -37,8 +38,11 @@ leastRows vs = leastLoaded (choices (offered vs))
 unfoldable pub chosenRows : List Partition → Answer (List Row)
 chosenRows vs = whenDone (firstNo (choiceQuestions (offered vs))) (answered (leastRows vs))
 
+abbrev pub planWith : List PlanPart → Answer (List Row) → Answer Plan
+planWith ps a = whenAnswered a (λ rows. answered (record { parts = ps; rows = rows }))
+
 unfoldable pub chosenPlan : List PlanPart → Answer Plan
-chosenPlan ps = whenAnswered (chosenRows (partitions ps)) (λ rows. answered (record { parts = ps; rows = rows }))
+chosenPlan ps = planWith ps (chosenRows (partitions ps))
 
 unfoldable pub planFile : List ℕ → Answer Plan
 planFile s = whenAnswered (partsOf s) chosenPlan

@@ -3,12 +3,12 @@
 use Prim.Native.Nat.{ℕ, zero, suc, _≤_, _<_}
 use native.Mathlib.Nat.{le-refl}
 use native.Mathlib.Omega.{arith}
-use mathlib.Core.Path.{_≡_, refl, sym, ap, subst, _∙_}
+use mathlib.Core.Path.{_≡_, refl, sym, ap, _∙_}
 use mathlib.Core.Bool.{Bool, true, false, false≢true}
 use mathlib.Core.Logic.{inl}
 use mathlib.Core.List.{List, [], _∷_}
 use lib.ListN.{length, getD, replicate, getD-replicate}
-use Rattle.least.specs.declared.Least.the-variants.{At, Nothing}
+use Rattle.least.specs.declared.Least.the-variants.{At}
 use Rattle.least.specs.Lists.{isEmpty}
 use Rattle.least.proofs.Search.{none-iff}
 use Rattle.refusal.specs.Limits.{numberLimit}

@@ -13,7 +13,6 @@ use Rattle.least.specs.Lists.{greatest, countFrom, range}
 use Rattle.least.proofs.Lists.{map-same, count-from}
 use Rattle.least.proofs.Count.{count-suc}
 use Rattle.refusal.specs.Limits.{numberLimit}
-use Rattle.task_set.specs.declared.Task.{Task}
 use Rattle.task_set.specs.declared.Part.{Part}
 use Rattle.task_set.specs.declared.Columns.{Columns}
 use Rattle.task_set.specs.declared.Locks.{Locks}

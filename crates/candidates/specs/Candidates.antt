@@ -4,6 +4,7 @@
 --   candidatesIn v        == the candidates of all settings
 --   isKept cs c           == no other (Q,X) of the list cs has X no greater and Q+X no greater
 --   keptList v            == the kept candidates, in falling X
+--   keptAnswer cs         == a list as the answer has it: up to keptLimit pairs, zeros in the places behind them, and their count
 --   shownCeiling v x l    == the ceiling shown for lock l: the lowest whose w is at most x and permitted
 -- Assumes nothing.
 use Prim.Native.Nat.{ℕ, zero, suc, _+_, _-_}

@@ -4,6 +4,7 @@ use least::Least;
 use raising::UNKNOWN;
 use refusal::KEPT_LIMIT;
 use refusal::NUMBER_LIMIT;
+use refusal::USE_PLACES;
 use task_set::Part;
 ghost use mathlib.Core.Path.{_≡_};
 ghost use Prim.Native.Nat.{ℕ, suc, _≤_, _<_};
@@ -73,7 +74,7 @@ fn budget_under(
     deadlines: &[u64; 16],
     n: usize,
     period: u64,
-    below: &[u64; 128],
+    below: &[u64; USE_PLACES],
     ceilings: &[usize; 8],
     m: usize,
     tested: [u64; 16],

@@ -2,7 +2,7 @@
 --   meetingTime periods costs n s own by v == the least time by which a linear supply gives what is asked for in v ticks
 -- Assumes nothing.
 use Prim.Native.Nat.{ℕ, suc, _+_, _-_, _*_, _≤_, _<_}
-use native.Mathlib.Nat.{le-trans, mul-comm, mul-le-mul-left, mul-le-mul-right, le-of-mul-le-mul-right, add-le-add, le-refl}
+use native.Mathlib.Nat.{mul-comm, mul-le-mul-left, mul-le-mul-right, le-of-mul-le-mul-right, add-le-add, le-refl}
 use native.Mathlib.Omega.{arith}
 use mathlib.Core.Path.{_≡_, ap, fun-ext, _∙_}
 use mathlib.Core.Bool.{Bool}
@@ -16,7 +16,7 @@ use Rattle.least.proofs.Iterate.{Mono, settles, UnsolvedFrom, step-from, jump-f
 use Rattle.demand.specs.Code.Demand.{demandFrom, FineDemand}
 use Rattle.demand.proofs.Demand.{demand-rises}
 use Rattle.envelope.specs.declared.LinearSupply.{LinearSupply}
-use Rattle.envelope.specs.Code.Envelope.{metAt, firstMet, FineSupply, NoEarlier}
+use Rattle.envelope.specs.Code.Envelope.{firstMet, FineSupply, NoEarlier}
 
 module _ (periods costs : List ℕ) (n s own : ℕ) (by : LinearSupply) where
   abbrev asked : ℕ → ℕ

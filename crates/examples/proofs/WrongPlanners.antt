@@ -1,6 +1,6 @@
 -- Demand 3 shuts out the wrong planners of paper 01: on one file each, whoever meets demand 3 answers as `plan` does, and they do not.
 -- Assumes nothing.
-use Prim.Native.Nat.{ℕ, _+_, _≤_}
+use Prim.Native.Nat.{ℕ, _≤_}
 use native.Mathlib.Omega.{arith}
 use mathlib.Core.Path.{_≡_, refl, sym, ap, subst, _∙_}
 use mathlib.Core.Logic.{inl, inr}

@@ -8,14 +8,6 @@ use lib.ListN.{length, getD}
 use Rattle.least.specs.Lists.{zip3}
 
 module _ {A B C D : Type 0} (f : A → B → C → D) where
-  pub zip3-cons : (x : A) (y : B) (z : C) (xs : List A) (ys : List B) (zs : List C) → zip3 f (x ∷ xs) (y ∷ ys) (z ∷ zs) ≡ f x y z ∷ zip3 f xs ys zs
-  unfolding zip3
-  zip3-cons x y z xs ys zs = refl
-
-  pub zip3-none : (ys : List B) (zs : List C) → zip3 f [] ys zs ≡ []
-  unfolding zip3
-  zip3-none ys zs = refl
-
   pub zip3-get : (u : D) (d : A) (e : B) (g : C) (k : ℕ) (xs : List A) (ys : List B) (zs : List C) → k < length xs → k < length ys → k < length zs
       → getD (zip3 f xs ys zs) k u ≡ f (getD xs k d) (getD ys k e) (getD zs k g)
   unfolding zip3

@@ -12,12 +12,6 @@ use Rattle.least.specs.Lists.{nthOr, those, joined, firstFrom, firstOf}
 use Rattle.least.specs.Fraction.{atMost, greatestOf}
 use Rattle.least.proofs.Lists.{those-pass, those-fail, nth-get, FirstAt, first-at}
 use Rattle.listing.specs.Listing.{Share, shareLines, loadLine, loadShare, listingOf}
-use Rattle.listing.specs.Code.Shares.{named, bare}
-
--- the load line shows the name and the bound of its share
-pub load-named : (s : Share) → loadLine (named (s .name) (s .bound)) ≡ loadLine s
-unfolding loadLine named bare
-load-named s = refl
 
 module _ {A : Type 0} (test : A → Bool) (d : A) where
   first-behind : (x : A) (xs : List A) (k : ℕ) → FirstAt test (x ∷ xs) (suc (suc k)) → FirstAt test xs (suc k)

@@ -2,6 +2,7 @@
 use least::Frac;
 use load::Row;
 use plan_file::Names;
+use refusal::CEILING_PLACES;
 use stretch::Span;
 ghost use mathlib.Core.Path.{_≡_};
 ghost use mathlib.Core.List.{[], _∷_};
@@ -72,7 +73,7 @@ fn write_ceiling(out: &mut [u8], at: usize, lock: &[u8], number: u64) -> usize
 fn write_ceilings(
     file: &[u8],
     locks: Names,
-    ceilings: &[u64; 128],
+    ceilings: &[u64; CEILING_PLACES],
     first: usize,
     out: &mut [u8],
     at: usize,
@@ -101,7 +102,7 @@ pub fn write_share(
     row: Row,
     bound: Frac,
     locks: Names,
-    ceilings: &[u64; 128],
+    ceilings: &[u64; CEILING_PLACES],
     first: usize,
     out: &mut [u8],
     at: usize,
@@ -156,7 +157,12 @@ fn ceiling_length(lock: &[u8], number: u64) -> usize
     10 + lock.len() + writer::digit_count(number)
 }
 
-fn ceilings_length(file: &[u8], locks: Names, ceilings: &[u64; 128], first: usize) -> usize
+fn ceilings_length(
+    file: &[u8],
+    locks: Names,
+    ceilings: &[u64; CEILING_PLACES],
+    first: usize,
+) -> usize
     requires { ⌜ FineLocks locks first ⌝ }
     requires { ⌜ length (now file) ≤ 2 ^ 32 ⌝ }
     ensures { λ r. ⌜ (r ≡ length (ceilingLines (ceilingsUnder (settingFrom (now (ceilings .entry)) first) 1 (namesOf (now (file .entry)) locks)))) × (r ≤ 2 ^ 36) ⌝ }
@@ -181,7 +187,7 @@ pub fn share_length(
     row: Row,
     bound: Frac,
     locks: Names,
-    ceilings: &[u64; 128],
+    ceilings: &[u64; CEILING_PLACES],
     first: usize,
 ) -> usize
     requires { ⌜ FineLocks locks first ⌝ }

@@ -59,7 +59,7 @@ fn rows_by(periods: &[u64; 16], sums: &[u64; 16], holdings: &[u64; 16], n: usize
     Rows { rows, count: n }
 }
 
-// The rows of the plan, or refusal 10 or 11.
+// The rows of the plan, or the refusal.
 pub struct PlanRows {
     pub outcome: Outcome,
     pub rows: Rows,

@@ -1,8 +1,8 @@
--- A file that cannot be read is refused by a question about the file.
+-- A file that cannot be read is refused by a question of reading.
 -- Assumes nothing.
 use Prim.Native.Nat.{ℕ}
-use mathlib.Core.Path.{_≡_, refl, sym, ap, _∙_, subst}
-use mathlib.Core.Bool.{Bool, true, false, false≢true}
+use mathlib.Core.Path.{_≡_, refl, sym, subst}
+use mathlib.Core.Bool.{Bool, true}
 use mathlib.Core.List.{List, List·Memᴰ, List·Memᴰ·head, Memᴰ·append-right}
 use Rattle.least.specs.Lists.{every}
 use Rattle.least.proofs.Lists.{every-member}
@@ -46,7 +46,3 @@ read-refused-of-file s r e = go (read-refused-iff s r .0 e)
     go (too-long h q) = rw q refl
     go (on-line h d) = first-about-file _ r (line-about-file _ _ (d .line)) (d .no)
     go (run-out h p b q) = rw q refl
-
--- so by no other question
-pub read-refused-by-no-other : (s : List ℕ) (r x : Refusal) → readFile s ≡ refused r → isOfTheFile x ≡ false → r ≡ x → ⊥
-read-refused-by-no-other s r x e l q = false≢true (sym l ∙ (sym (ap isOfTheFile q) ∙ read-refused-of-file s r e))

@@ -1,6 +1,6 @@
 -- Demand 1 as a statement: whoever hands over a plan file, hand-set shares or a buffer, of any bytes, numbers and length, gets a complete answer or
 -- one numbered refusal, by the fixed order of questions, and a refusal writes nothing into the lent buffer. In which case each refusal comes is demand 2.
---   OfTheFile r     == a refusal by a question about the file
+--   OfTheFile r     == a refusal by a question of reading: 1 to 9
 --   OfThePlan r     == such a refusal, or one by questions 10, 11 or 14
 --   Demand1 Promise == demand 1 of the operations, of which a plan promises `Promise` of the file, the lent bytes before, the result and the lent bytes
 --                      after; `plan` promises `PlanAnswered`
@@ -33,15 +33,15 @@ pub record Demand1 (Promise : List ℕ → List ℕ → Planned → List ℕ →
   -- a plan hands over bytes that fit the lent ones, or a refusal of the plan; which bytes and which refusal is demand 3
   pub plan : (s before : List ℕ) (r : Planned) (after : List ℕ) → Promise s before r after →
       ((text : List ℕ) × (length text ≤ length before) × HandedOver (answered text) before r after) ⊎ ((x : Refusal) × OfThePlan x × HandedOver (refused x) before r after)
-  -- a file that the questions about it refuse gets that refusal, with its place
+  -- a file that questions 1 to 9 refuse gets that refusal, with its place
   pub unread : (s before : List ℕ) (r : Planned) (after : List ℕ) (x : Refusal) → Promise s before r after → RefusedAt s x → HandedOver (refused x) before r after
   -- a refusal writes nothing into the lent buffer
   pub untouched : (s before : List ℕ) (r : Planned) (after : List ℕ) (x : Refusal) → Promise s before r after → r .outcome ≡ Refused x → after ≡ before
   -- a plan writes no byte after those that it counts
   pub others : (s before : List ℕ) (r : Planned) (after : List ℕ) → Promise s before r after → drop (r .written) after ≡ drop (r .written) before
-  -- candidates: refused only by a question about the file, by 12, or by 10 for that part
+  -- candidates: refused only by questions 1 to 9, by 12, or by 10 for that part
   pub candidates : (s : List ℕ) (k : ℕ) (r : Refusal) → candidatesOf s k ≡ refused r → OfTheFile r ⊎ ((r ≡ BadHandSet 0) ⊎ (r ≡ NoBudget k))
-  -- a name: by a question about the file, or by 12
+  -- a name: by questions 1 to 9, or by 12
   pub name : (s : List ℕ) (k : ℕ) (r : Refusal) → nameOf s k ≡ refused r → OfTheFile r ⊎ (r ≡ BadHandSet 0)
   -- weighing, of a lent list and of a struct: by questions 12 or 13
   pub weigh : (rows : List Row) (r : Refusal) → weighOf rows .outcome ≡ Refused r → ((j : ℕ) × (r ≡ BadHandSet j)) ⊎ ((j : ℕ) × (r ≡ NoTime j))

@@ -35,7 +35,7 @@ use Rattle.reader.specs.Code.Reader.{partsIn, ReadIs}
 use Rattle.reader.proofs.Handed.{parts-count}
 use Rattle.answers.specs.Parts.{sharesOf}
 use Rattle.answers.specs.Answers.{planOf, planned, bufferAfter, PlanAnswered, listedIn}
-use Rattle.answers.specs.Plan.{Plan, planText}
+use Rattle.answers.specs.Plan.{Plan, planWith, planText}
 use Rattle.answers.proofs.PlanRows.{shares-bounds, listed-or-14}
 use Rattle.offers.specs.Code.Least.{planRowsFrom}
 use Rattle.printing.specs.Code.Printing.{listingAt, sharesIn, ToPrint, EachFine, AllShownAre}
@@ -43,7 +43,7 @@ use Rattle.printing.proofs.Ceilings.{shares-shown}
 use Rattle.planning.specs.Code.Chosen.{rowsRead, PlanIs}
 use Rattle.planning.proofs.Planning.{file-fine, listing-same, buffer-same, each-fine}
 use Rattle.planning.proofs.Weighed.{kept-weighed}
-use Rattle.planning.proofs.Choosing.{planWith, plan-read, readable, reads, count-is, rows-room, plan-is, kept, passes, rows-length}
+use Rattle.planning.proofs.Choosing.{plan-read, readable, reads, count-is, rows-room, plan-is, kept, passes, rows-length}
 
 -- a refusal has zeros everywhere else, and no byte changes
 refused-is : (s out : List ℕ) (r : Refusal) → planOf s (length out) ≡ refused r → PlanAnswered s out (record { outcome = Refused r; written = 0 }) out

@@ -24,17 +24,13 @@ use Rattle.plan_file.specs.Numbers.{PlanPart, partsOf}
 use Rattle.reader.specs.declared.PlanFile.{PlanFile}
 use Rattle.reader.specs.Code.Reader.{partsIn, fileOf, ReadIs}
 use Rattle.reader.proofs.Handed.{handed-done, parts-count}
-use Rattle.answers.specs.Plan.{Plan, partitions, chosenRows, chosenPlan, planFile}
+use Rattle.answers.specs.Plan.{partitions, chosenRows, planWith, chosenPlan, planFile}
 use Rattle.answers.specs.Choice.{BuiltFromKept}
 use Rattle.answers.proofs.PlanRows.{RowsChosen, rows-answered, leastRows-kept, leastRows-passes}
 use Rattle.offers.specs.declared.PlanRows.{PlanRows}
 use Rattle.offers.specs.Code.Least.{partitionsIn, planRowsFrom}
 use Rattle.planning.specs.Code.Chosen.{rowsRead, PlanIs}
 use Rattle.planning.proofs.Planning.{partitions-same}
-
--- the plan of these parts with these rows
-abbrev pub planWith : List PlanPart → Answer (List Row) → Answer Plan
-planWith ps a = whenAnswered a (λ rows. answered (record { parts = ps; rows = rows }))
 
 pub plan-read : (s : List ℕ) (f : PlanFile) → ReadIs s f → planFile s ≡ planWith (partsIn s f) (rowsRead f)
 unfolding planFile fileOf whenAnswered whenDone chosenPlan

@@ -1,4 +1,4 @@
--- A plan, from what the reader hands on: the parts are fine to search and to print, and the rows that they offer are those of the file's parts.
+-- A plan, from what the reader hands on: the parts are fine to search and to print, and their numbers are those of the file's parts.
 -- Assumes nothing.
 use Prim.Native.Nat.{ℕ, zero, suc, _+_, _≤_}
 use native.Mathlib.Omega.{arith}

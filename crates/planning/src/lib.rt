@@ -3,6 +3,7 @@ use answers::Planned;
 use load::Rows;
 use offers::PlanRows;
 use reader::PlanFile;
+use refusal::CEILING_PLACES;
 use refusal::Outcome;
 use refusal::Refusal;
 ghost use mathlib.Core.Path.{_≡_};
@@ -32,7 +33,7 @@ fn print_plan(file: &[u8], f: PlanFile, rows: Rows, out: &mut [u8]) -> Planned
     ensures { λ r. ⌜ PlanAnswered (now (file .entry)) (now (out .entry)) r (now (out .exit)) ⌝ }
 {
     let n = f.count;
-    let mut ceilings = [0u64; 128];
+    let mut ceilings = [0u64; CEILING_PLACES];
     let mut k = 0;
     while k < n {
         let p = f.parts[k];

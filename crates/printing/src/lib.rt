@@ -2,6 +2,7 @@
 use least::Frac;
 use load::Rows;
 use reader::PlanFile;
+use refusal::CEILING_PLACES;
 ghost use mathlib.Core.Path.{_≡_};
 ghost use Prim.Native.Nat.{_≤_};
 ghost use lib.ListN.{length};
@@ -15,7 +16,7 @@ pub fn listing_length(
     rows: Rows,
     bounds: [Frac; 16],
     row: usize,
-    ceilings: &[u64; 128],
+    ceilings: &[u64; CEILING_PLACES],
 ) -> usize
     requires { ⌜ ToPrint (now file) f row ⌝ }
     ensures { λ r. ⌜ r ≡ length (listingAt row (sharesIn (now (file .entry)) f rows bounds (now (ceilings .entry)))) ⌝ }
@@ -42,7 +43,7 @@ pub fn write_listing(
     rows: Rows,
     bounds: [Frac; 16],
     row: usize,
-    ceilings: &[u64; 128],
+    ceilings: &[u64; CEILING_PLACES],
     out: &mut [u8],
 ) -> usize
     requires { ⌜ ToPrint (now file) f row ⌝ }

@@ -2,7 +2,7 @@
 --   refusalNumber r == the number of the question that has the answer no
 --   refusalPlace r  == its place: a line, a part or a row, counted from 1, or 0
 --   numberOf o, placeOf o == the same of an outcome
---   isOfTheFile r   == the question is about the plan file by itself: its length and its lines
+--   isOfTheFile r   == the question is one of those with which the file is read, 1 to 9: about its length and its lines
 -- Assumes nothing.
 use Prim.Native.Nat.{ℕ}
 use mathlib.Core.Bool.{Bool, true, false}

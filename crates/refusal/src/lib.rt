@@ -26,6 +26,11 @@ pub const KEPT_LIMIT: usize = 121;
 
 pub const OFFER_PLACES: usize = PART_LIMIT * KEPT_LIMIT;
 
+// Places for a number of each lock: of every part, and of every task in a part.
+pub const CEILING_PLACES: usize = PART_LIMIT * LOCK_LIMIT;
+
+pub const USE_PLACES: usize = TASK_LIMIT * LOCK_LIMIT;
+
 // A refusal by its question, with the place where the paper gives one.
 pub enum Refusal {
     // 1. Is the file at most 32,768 bytes?

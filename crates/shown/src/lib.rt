@@ -4,6 +4,8 @@ use task_set::Part;
 ghost use mathlib.Core.Path.{_≡_};
 ghost use Prim.Native.Nat.{_<_};
 ghost use lib.ListN.{length};
+ghost use Rattle.refusal.specs.Limits.{partLimit};
+ghost use Rattle.refusal.specs.Code.Limits.{ceilingPlaces};
 ghost use Rattle.task_set.specs.Code.Partition.{partitionOf};
 ghost use Rattle.task_set.specs.Code.Fine.{FinePart};
 ghost use Rattle.shown.specs.Code.Shown.{ceilingOr0, Shown};
@@ -21,7 +23,7 @@ fn ceiling_or_0(c: Ceiling) -> u64
 // The ceilings shown for x, lock by lock in order of first mention: the lowest that are held for at most x. The part at the place k has the places from 8 k on.
 pub fn show_ceilings(part: Part, x: u64, k: usize, ceilings: &mut [u64])
     requires { ⌜ FinePart part ⌝ }
-    requires { ⌜ (k < 16) × (length (now ceilings) ≡ 128) ⌝ }
+    requires { ⌜ (k < partLimit) × (length (now ceilings) ≡ ceilingPlaces) ⌝ }
     ensures { λ r. ⌜ Shown (partitionOf part) x k (now (ceilings .entry)) (now (ceilings .exit)) ⌝ }
 {
     let columns = task_set::columns_of(part);

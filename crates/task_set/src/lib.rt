@@ -1,4 +1,5 @@
 // The tasks of a part and the locks that they share.
+use refusal::USE_PLACES;
 ghost use mathlib.Core.Path.{_≡_};
 ghost use Prim.Native.Nat.{suc, _≤_, _<_};
 ghost use Rattle.task_set.specs.Code.Tasks.{tasksOf};
@@ -134,12 +135,12 @@ pub fn locks_of(part: Part) -> Locks
 }
 
 // For each place i and each lock at the place j, at 8 i + j: the longest use of the lock by a task below the place i.
-pub fn longest_below(part: Part) -> [u64; 128]
+pub fn longest_below(part: Part) -> [u64; USE_PLACES]
     ensures { λ r. ⌜ LongestBelow part r ⌝ }
 {
-    let mut table = [0u64; 128];
+    let mut table = [0u64; USE_PLACES];
     let mut k = 8;
-    while k < 128 {
+    while k < USE_PLACES {
         let t = part.tasks[k / 8 - 1];
         table[k] = least::larger(table[k - 8], t.uses[k % 8]);
         k += 1;
@@ -155,7 +156,7 @@ fn blocked_for(ceiling: usize, c: u64, i: usize) -> u64
 }
 
 // The blocking of the task at the place i under these ceilings of m locks, from the table of `longest_below`.
-pub fn blocking_at(below: &[u64; 128], ceilings: &[usize; 8], m: usize, i: usize) -> u64
+pub fn blocking_at(below: &[u64; USE_PLACES], ceilings: &[usize; 8], m: usize, i: usize) -> u64
     requires { ⌜ (m ≤ 8) × (i < 16) ⌝ }
     ensures { λ r. ⌜ r ≡ blockingBy (now (below .entry)) (now (ceilings .entry)) m i ⌝ }
 {

@@ -1,6 +1,6 @@
 -- A budget that passes is at least the utilisation of the part: Q/P ≥ Σ C/T.
 -- Assumes nothing.
-use Prim.Native.Nat.{ℕ, zero, suc, _+_, _-_, _*_, _≤_}
+use Prim.Native.Nat.{ℕ, zero, suc, _+_, _*_, _≤_}
 use native.Mathlib.Nat.{le-refl, le-trans, mul-comm, mul-assoc, mul-left-comm, add-mul, zero-mul, mul-le-mul-left, le-of-mul-le-mul-right, div-mul-le-self}
 use native.Mathlib.Omega.{arith}
 use mathlib.Core.Path.{_≡_, refl, sym, ap, subst}

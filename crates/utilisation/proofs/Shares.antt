@@ -1,8 +1,7 @@
 -- The share of a part's tasks, place by place.
 -- Assumes nothing.
 use Prim.Native.Nat.{ℕ, suc, _+_, _*_, _≤_, _<_}
-use native.Mathlib.Nat.{mul-comm, mul-le-mul-right, div-le-of-le-mul}
-use native.Mathlib.Omega.{arith}
+use native.Mathlib.Nat.{mul-le-mul-right, div-le-of-le-mul}
 use mathlib.Core.Path.{_≡_, refl}
 use lib.ListN.{drop, getD}
 use Rattle.least.specs.Lists.{sum}

@@ -7,7 +7,6 @@ use Rattle.least.specs.Round.{ceilDiv}
 use Rattle.least.proofs.Round.{product}
 use Rattle.least.proofs.Iterate.{UnsolvedFrom}
 use Rattle.refusal.specs.Limits.{numberLimit}
-use Rattle.demand.specs.Code.Demand.{demandFrom}
 use Rattle.envelope.proofs.Meeting.{meetingTime, met-past, met-over, met-here, met-step, met-jump}
 use Rattle.envelope.proofs.first_met.Statement.{statement}
 use Rattle.envelope.proofs.first_met.Tie as tie

@@ -10,6 +10,7 @@ use mathlib.Core.List.{List, [], _∷_, _++_, map}
 use Rattle.least.specs.declared.Frac.{Frac}
 use Rattle.least.specs.Lists.{joined}
 use Rattle.refusal.specs.Limits.{lockLimit}
+use Rattle.refusal.specs.Code.Limits.{ceilingPlaces}
 use Rattle.load.specs.declared.Row.{Row}
 use Rattle.plan_file.specs.declared.Names.{Names}
 use Rattle.plan_file.specs.Code.Entries.{FineNames}
@@ -30,4 +31,4 @@ ceilingLines cs = joined (map ceilingLine cs)
 pub record FineLocks (locks : Names) (first : ℕ) : Type 0 where
   pub names : FineNames locks
   pub few : locks .count ≤ lockLimit
-  pub room : first + locks .count ≤ 128
+  pub room : first + locks .count ≤ ceilingPlaces

@@ -1,5 +1,5 @@
 -- The partition that the struct `Part` holds.
---   partitionOf p == the partition that the struct `Part` holds: the one place where its counts and unused places occur
+--   partitionOf p == the partition that the struct `Part` holds; the counts and unused places of the struct occur in `tasksOf` alone
 -- Assumes nothing.
 use Rattle.task_set.specs.declared.Part.{Part}
 use Rattle.task_set.specs.Partition.{Partition}

@@ -6,7 +6,6 @@ use native.Mathlib.Omega.{arith}
 use mathlib.Core.Path.{_≡_}
 use lib.ListN.{drop, getD}
 use Rattle.envelope.specs.Code.Envelope.{slopeScale}
-use Rattle.task_set.specs.declared.Part.{Part}
 use Rattle.task_set.specs.Code.Tasks.{tasksOf}
 use Rattle.task_set.specs.Code.Fine.{blankTask, FineTask}
 use Rattle.utilisation.specs.Code.Utilisation.{share, shareIn}
