@@ -14,6 +14,7 @@ pub mod Pad
 pub mod Last
 pub mod Iterate
 pub mod Fill
+pub mod Stores
 pub mod Numbers
 pub mod Members
 pub mod Count

@@ -8,6 +8,7 @@ use mathlib.Core.Logic.{inl}
 use mathlib.Core.List.{List}
 use lib.ListN.{length, getD, set, length-set}
 use lib.Seq.{getD-set-same, getD-set-other}
+use Rattle.least.specs.Code.Stored.{Stored}
 use Rattle.least.proofs.Pad.{getD-pad}
 use Rattle.refusal.specs.Limits.{keptLimit}
 use Rattle.task_set.specs.Code.Partition.{partitionOf}
@@ -18,7 +19,7 @@ use Rattle.candidates.specs.declared.Kept.{Kept}
 use Rattle.candidates.specs.Candidates.{pair, keptAnswer}
 use Rattle.candidates.proofs.Count.{kept-121}
 use Rattle.reader.specs.declared.PlanFile.{PlanFile}
-use Rattle.offers.specs.Code.Gathered.{partIn, listIn, FineParts, budgetIn, holdingIn, Stored, OfferedAt}
+use Rattle.offers.specs.Code.Gathered.{partIn, listIn, FineParts, budgetIn, holdingIn, OfferedAt}
 
 pub list-most : (f : PlanFile) → FineParts f → (k : ℕ) → k < f .count → length (listIn f k) ≤ keptLimit
 list-most f fine k h =
@@ -36,7 +37,7 @@ module _ (f : PlanFile) (fine : FineParts f) where
   pub gather-start : (periods counts budgets holdings : List ℕ) → length periods ≡ 16 → length counts ≡ 16 → GatheredTo f periods counts budgets holdings 0
   gather-start periods counts budgets holdings a b = record { room = a; rooms = b; most = omega arith; each = λ j l. absurd (omega arith) }
 
-  module _ (periods counts budgets holdings after held : List ℕ) (k : ℕ) (kept : Kept) (g : GatheredTo f periods counts budgets holdings k) (h : k < f .count) (is : kept ≡ keptAnswer (listIn f k)) (some : 1 ≤ length (listIn f k)) (bs : Stored (budgetIn kept) k (kept .count) budgets after) (hs : Stored (holdingIn kept) k (kept .count) holdings held) where
+  module _ (periods counts budgets holdings after held : List ℕ) (k : ℕ) (kept : Kept) (g : GatheredTo f periods counts budgets holdings k) (h : k < f .count) (is : kept ≡ keptAnswer (listIn f k)) (some : 1 ≤ length (listIn f k)) (bs : Stored (budgetIn kept) (keptLimit * k) (kept .count) budgets after) (hs : Stored (holdingIn kept) (keptLimit * k) (kept .count) holdings held) where
     count-is : kept .count ≡ length (listIn f k)
     unfolding keptAnswer
     count-is = ap (λ (x : Kept). x .count) is

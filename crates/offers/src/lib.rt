@@ -10,20 +10,21 @@ use refusal::Outcome;
 use refusal::Refusal;
 ghost use mathlib.Core.Path.{_≡_};
 ghost use mathlib.Core.Bool.{true};
-ghost use Prim.Native.Nat.{_≤_, _<_};
+ghost use Prim.Native.Nat.{_*_, _≤_, _<_};
 ghost use lib.ListN.{length};
+ghost use Rattle.least.specs.Code.Stored.{Stored};
 ghost use Rattle.refusal.specs.Limits.{partLimit, keptLimit};
 ghost use Rattle.refusal.specs.Code.Limits.{offerPlaces};
 ghost use Rattle.load.specs.Code.ByColumn.{rowsBy, FineColumns};
 ghost use Rattle.load.specs.Code.Weigh.{rowsFrom};
 ghost use Rattle.answers.specs.Plan.{chosenRows};
-ghost use Rattle.offers.specs.Code.Gathered.{FineParts, budgetIn, holdingIn, Stored, MissingIs, isOver};
+ghost use Rattle.offers.specs.Code.Gathered.{FineParts, budgetIn, holdingIn, MissingIs, isOver};
 ghost use Rattle.offers.specs.Code.Least.{noRows, partitionsIn, planRowsFrom};
 
 // The pairs of the part k at its places.
 fn store(kept: Kept, k: usize, budgets: &mut [u64], holdings: &mut [u64])
     requires { ⌜ (k < partLimit) × (kept .count ≤ keptLimit) × (length (now budgets) ≡ offerPlaces) × (length (now holdings) ≡ offerPlaces) ⌝ }
-    ensures { λ r. ⌜ Stored (budgetIn kept) k (kept .count) (now (budgets .entry)) (now (budgets .exit)) × Stored (holdingIn kept) k (kept .count) (now (holdings .entry)) (now (holdings .exit)) ⌝ }
+    ensures { λ r. ⌜ Stored (budgetIn kept) (keptLimit * k) (kept .count) (now (budgets .entry)) (now (budgets .exit)) × Stored (holdingIn kept) (keptLimit * k) (kept .count) (now (holdings .entry)) (now (holdings .exit)) ⌝ }
 {
     let n = kept.count;
     let mut i = 0;

@@ -26,7 +26,7 @@ pub fn choose(f: PlanFile) -> PlanRows
     }
 }
 
-// The listing of a plan, if it fits: question 14. The ceilings shown are worked out once, those of the part at the place k from the place 8 k on; they stand here
+// The listing of a plan, if it fits: question 14. The ceilings shown are worked out once, those of the part at the place k from the place LOCK_LIMIT × k on; they stand here
 // and not in a function of their own, which would copy the file.
 fn print_plan(file: &[u8], f: PlanFile, rows: Rows, out: &mut [u8]) -> Planned
     requires { ⌜ PlanIs (now file) f rows ⌝ }

@@ -5,12 +5,14 @@ use Prim.Native.Nat.{ℕ, suc, _+_, _*_, _≤_, _<_}
 use native.Mathlib.Omega.{arith}
 use native.Mathlib.Decide.{decLt}
 use mathlib.Core.Path.{_≡_, sym, ap, ap₂, _∙_}
+use mathlib.Core.Logic.{inl}
 use mathlib.Core.List.{List, [], _∷_}
 use lib.ListN.{length, take, getD, replicate, length-replicate, length-map}
 use lib.Seq.{getD-take, length-take-le, ext-getD}
 use Rattle.least.specs.declared.Frac.{Frac}
 use Rattle.least.specs.Lists.{zip3}
 use Rattle.least.proofs.Zip.{zip3-get}
+use Rattle.refusal.specs.Limits.{lockLimit}
 use Rattle.refusal.specs.Code.Limits.{ceilingPlaces}
 use Rattle.task_set.specs.Code.Partition.{partitionOf}
 use Rattle.task_set.specs.Blocking.{Setting}
@@ -56,7 +58,7 @@ module _ (f : PlanFile) (rows : Rows) where
   shown-more fine n before after h to next = record { room = next .room ∙ to .room; each = λ k l. at k l (decLt k n) }
     where
       at : (k : ℕ) → k < n + 1 → Dec (k < n) → ShownAre (partitionOf (readAt f k .part)) (rowAt rows k .holding) k after
-      at k l (yes u) = λ j m. next .lower (8 * k + j) (omega (arith, fine k (omega arith) .few-locks)) ∙ to .each k u j m
+      at k l (yes u) = λ j m. next .others (lockLimit * k + j) (inl (omega (arith, fine k (omega arith) .few-locks))) ∙ to .each k u j m
       at k l (no u) = let e : k ≡ n = omega arith in rw e (next .each)
 
 share-agree : (name : List ℕ) (locks : List (List ℕ)) (σ τ : Setting) (r : Row) (b : Frac) → ((j : ℕ) → j < length locks → σ (1 + j) ≡ τ (1 + j)) → shareUnder name locks σ r b ≡ shareUnder name locks τ r b
@@ -65,14 +67,14 @@ share-agree name locks σ τ r b same =
     ap (λ (ceilings : List Ceiling). record { name = name; row = r; bound = b; ceilings = ceilings }) (ceilings-agree σ τ 1 locks same)
 
 share-shown : (s : List ℕ) (p : PartRead) (r : Row) (b : Frac) (k : ℕ) (cs : List ℕ) → FineCounts p → ShownAre (partitionOf (p .part)) (r .holding) k cs
-    → shareUnder (bytesOf s (p .name)) (namesOf s (p .locks)) (settingFrom cs (8 * k)) r b ≡ shareOf (partOf s p) r b
+    → shareUnder (bytesOf s (p .name)) (namesOf s (p .locks)) (settingFrom cs (lockLimit * k)) r b ≡ shareOf (partOf s p) r b
 unfolding partOf
 share-shown s p r b k cs fine shown =
     let count : length (namesOf s (p .locks)) ≡ p .part .locks = names-length s (p .locks) (fine .names) ∙ sym (fine .locks-are) in
-    let σ = settingFrom cs (8 * k) in
+    let σ = settingFrom cs (lockLimit * k) in
     let τ = shownCeiling (partitionOf (p .part)) (r .holding) in
     share-agree (bytesOf s (p .name)) (namesOf s (p .locks)) σ τ r b
-    (λ j h. let e : 1 + j ≡ suc j = omega arith in ap σ e ∙ setting-from-at cs (8 * k) j ∙ shown j (omega (arith, count)) ∙ ap τ (sym e))
+    (λ j h. let e : 1 + j ≡ suc j = omega arith in ap σ e ∙ setting-from-at cs (lockLimit * k) j ∙ shown j (omega (arith, count)) ∙ ap τ (sym e))
 
 zip3-length : {A B C D : Type 0} (f : A → B → C → D) (n : ℕ) (xs : List A) (ys : List B) (zs : List C) → length xs ≡ n → length ys ≡ n → length zs ≡ n → length (zip3 f xs ys zs) ≡ n
 unfolding zip3

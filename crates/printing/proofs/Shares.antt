@@ -9,6 +9,7 @@ use Rattle.least.specs.declared.Frac.{Frac}
 use Rattle.least.specs.Lists.{nthOr, joined}
 use Rattle.least.proofs.Lists.{nth-get}
 use Rattle.least.proofs.Columns.{column-length, column-get}
+use Rattle.refusal.specs.Limits.{lockLimit}
 use Rattle.load.specs.declared.Rows.{Rows}
 use Rattle.load.specs.Code.Rows.{noFrac}
 use Rattle.stretch.specs.Stretch.{bytesOf}
@@ -20,7 +21,7 @@ use Rattle.listing.proofs.Shares.{sharesFrom, shares-more}
 use Rattle.printing.specs.Code.Printing.{noShare, listingAt, shareIn, sharesIn, FineFile}
 
 -- the locks of each part have their ceilings
-pub locks-fine : (f : PlanFile) → FineFile f → (k : ℕ) → k < f .count → FineLocks (getD (f .parts) k blankPart .locks) (8 * k)
+pub locks-fine : (f : PlanFile) → FineFile f → (k : ℕ) → k < f .count → FineLocks (getD (f .parts) k blankPart .locks) (lockLimit * k)
 locks-fine f fine k h =
     let c = fine .counts k h in
     record { names = c .names; few = omega (arith, c .few-locks, c .locks-are); room = omega (arith, fine .few, c .few-locks, c .locks-are) }

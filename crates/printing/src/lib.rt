@@ -3,6 +3,7 @@ use least::Frac;
 use load::Rows;
 use reader::PlanFile;
 use refusal::CEILING_PLACES;
+use refusal::LOCK_LIMIT;
 ghost use mathlib.Core.Path.{_≡_};
 ghost use Prim.Native.Nat.{_≤_};
 ghost use lib.ListN.{length};
@@ -30,7 +31,7 @@ pub fn listing_length(
         let p = f.parts[k];
         let r = rows.rows[k];
         let bound = bounds[k];
-        total += listing::share_length(file, p.name, r, bound, p.locks, ceilings, 8 * k);
+        total += listing::share_length(file, p.name, r, bound, p.locks, ceilings, LOCK_LIMIT * k);
         k += 1;
     }
     total
@@ -59,7 +60,17 @@ pub fn write_listing(
         let p = f.parts[k];
         let r = rows.rows[k];
         let bound = bounds[k];
-        next = listing::write_share(file, p.name, r, bound, p.locks, ceilings, 8 * k, out, next);
+        next = listing::write_share(
+            file,
+            p.name,
+            r,
+            bound,
+            p.locks,
+            ceilings,
+            LOCK_LIMIT * k,
+            out,
+            next,
+        );
         k += 1;
     }
     next

@@ -1,5 +1,6 @@
 // The ceilings shown for a holding time of a part.
 use holding::Ceiling;
+use refusal::LOCK_LIMIT;
 use task_set::Part;
 ghost use mathlib.Core.Path.{_≡_};
 ghost use Prim.Native.Nat.{_<_};
@@ -20,7 +21,7 @@ fn ceiling_or_0(c: Ceiling) -> u64
     }
 }
 
-// The ceilings shown for x, lock by lock in order of first mention: the lowest that are held for at most x. The part at the place k has the places from 8 k on.
+// The ceilings shown for x, lock by lock in order of first mention: the lowest that are held for at most x. The part at the place k has the places from LOCK_LIMIT × k on.
 pub fn show_ceilings(part: Part, x: u64, k: usize, ceilings: &mut [u64])
     requires { ⌜ FinePart part ⌝ }
     requires { ⌜ (k < partLimit) × (length (now ceilings) ≡ ceilingPlaces) ⌝ }
@@ -33,7 +34,7 @@ pub fn show_ceilings(part: Part, x: u64, k: usize, ceilings: &mut [u64])
     let longest = locks.longest;
     let limits = locks.deadlines;
     let lowest = locks.lowest;
-    let first = 8 * k;
+    let first = LOCK_LIMIT * k;
     let mut hint = holding::no_hint();
     let mut j = 0;
     while j < part.locks {

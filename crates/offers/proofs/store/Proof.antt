@@ -1,22 +1,24 @@
 -- `offers::store` meets its contract: each turn stores one pair.
 -- Assumes nothing.
-use Prim.Native.Nat.{_-_, _≤_}
+use Prim.Native.Nat.{_-_, _*_, _≤_}
 use native.Mathlib.Omega.{arith}
 use mathlib.Core.Path.{_≡_, refl}
+use Rattle.least.specs.Code.Stored.{Stored}
+use Rattle.least.proofs.Stores.{store-start, store-step, store-end}
+use Rattle.refusal.specs.Limits.{keptLimit}
 use Rattle.offers.specs.Code.Gathered.{budgetIn, holdingIn}
-use Rattle.offers.proofs.Stores.{StoredTo, store-start, store-step, store-end}
 use Rattle.offers.proofs.store.Statement.{statement}
 use Rattle.offers.proofs.store.Tie as tie
 
 abbrev Inv-loop : tie.InvT-loop
 Inv-loop k budgets₀ holdings₀ kept n i₀ budgets holdings i =
-    StoredTo (budgetIn kept) k i budgets₀ budgets × StoredTo (holdingIn kept) k i holdings₀ holdings × (i ≤ n)
+    Stored (budgetIn kept) (keptLimit * k) i budgets₀ budgets × Stored (holdingIn kept) (keptLimit * k) i holdings₀ holdings × (i ≤ n)
 
 abbrev μ-loop : tie.MeasureT-loop
 μ-loop k budgets₀ holdings₀ kept n i₀ budgets holdings i = n - i
 
 loop-holds : tie.Need-loop-holds Inv-loop μ-loop
-loop-holds c = (store-start _ (c .args .k) _ (c .pre .2), store-start _ (c .args .k) _ (c .pre .3), omega arith)
+loop-holds c = (store-start _ _ _, store-start _ _ _, omega arith)
 
 mul-pair : tie.Need-mul-pair Inv-loop μ-loop
 mul-pair c = omega arith
@@ -34,13 +36,13 @@ mul-budgets : tie.Need-mul-budgets Inv-loop μ-loop
 mul-budgets c = omega arith
 
 slice-write-budgets : tie.Need-slice-write-budgets Inv-loop μ-loop
-slice-write-budgets c = omega (arith, c .before .before .loop .inv .0 .room)
+slice-write-budgets c = omega (arith, c .before .before .loop .inv .0 .room, c .before .before .before .pre)
 
 mul-holdings : tie.Need-mul-holdings Inv-loop μ-loop
 mul-holdings c = omega arith
 
 slice-write-holdings : tie.Need-slice-write-holdings Inv-loop μ-loop
-slice-write-holdings c = omega (arith, c .before .before .loop .inv .1 .room)
+slice-write-holdings c = omega (arith, c .before .before .loop .inv .1 .room, c .before .before .before .pre)
 
 add-i : tie.Need-add-i Inv-loop μ-loop
 add-i c = omega arith
@@ -52,20 +54,20 @@ loop-again : tie.Need-loop-again Inv-loop μ-loop
 loop-again c =
     let at = c .before .before .loop in
     let s = c .before .before .before in
-    (store-step _ (s .args .k) _ (at .budgets) (at .i) _ (at .inv .0) (s .pre .0) (omega arith) refl, store-step _ (s .args .k) _ (at .holdings) (at .i) _ (at .inv .1) (s .pre .0) (omega arith) refl, omega arith)
+    (store-step _ _ _ (at .budgets) (at .i) _ (at .inv .0) (omega (arith, s .pre)) refl, store-step _ _ _ (at .holdings) (at .i) _ (at .inv .1) (omega (arith, s .pre)) refl, omega arith)
 
 same-length : tie.Need-same-length Inv-loop μ-loop
-same-length c = c .before .loop .inv .0 .stored .room
+same-length c = c .before .loop .inv .0 .room
 
 same-length-2 : tie.Need-same-length-2 Inv-loop μ-loop
-same-length-2 c = c .before .loop .inv .1 .stored .room
+same-length-2 c = c .before .loop .inv .1 .room
 
 returns : tie.Need-returns Inv-loop μ-loop
 returns c =
     let at = c .before .loop in
     let s = c .before .before in
     let e : at .i ≡ s .args .t1 .count = omega arith in
-    (store-end _ (s .args .k) _ (at .budgets) (at .i) _ (at .inv .0) e, store-end _ (s .args .k) _ (at .holdings) (at .i) _ (at .inv .1) e)
+    (store-end _ _ _ (at .budgets) (at .i) _ (at .inv .0) e, store-end _ _ _ (at .holdings) (at .i) _ (at .inv .1) e)
 
 pub store-spec : {M : Type 1} → statement M
 store-spec =

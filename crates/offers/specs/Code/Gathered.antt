@@ -3,7 +3,6 @@
 --   listIn f k       == its kept list
 --   FineParts f      == the numbers of the parts are in range
 --   budgetIn kept i, holdingIn kept i == Q and X of the pair at the place i
---   Stored value k n before after == `after` is `before` with n values from the place keptLimit × k on, and every other place as it was
 --   OfferedAt f .. k == the arrays hold the period and the kept pairs of the part at the place k, and there are some
 --   MissingIs f m    == m is the number, from 1, of the first part without a kept pair, or 0
 --   utilisations f n == for how much of the processor each of the first n parts asks, in parts of slopeScale, rounded down
@@ -12,7 +11,6 @@
 use Prim.Native.Nat.{ℕ, suc, _+_, _*_, _≤_, _<_}
 use mathlib.Core.Path.{_≡_}
 use mathlib.Core.Bool.{Bool}
-use mathlib.Core.Logic.{_⊎_}
 use mathlib.Core.List.{List, map}
 use lib.Dec.{ltb}
 use lib.ListN.{length, getD}
@@ -48,11 +46,6 @@ budgetIn kept i = getD (kept .pairs) i (pair 0 0) .budget
 
 abbrev pub holdingIn : Kept → ℕ → ℕ
 holdingIn kept i = getD (kept .pairs) i (pair 0 0) .holding
-
-pub record Stored (value : ℕ → ℕ) (k n : ℕ) (before after : List ℕ) : Type 0 where
-  pub each : (i : ℕ) → i < n → getD after (keptLimit * k + i) 0 ≡ value i
-  pub others : (j : ℕ) → (j < keptLimit * k) ⊎ (keptLimit * k + n ≤ j) → getD after j 0 ≡ getD before j 0
-  pub room : length after ≡ length before
 
 pub record OfferedAt (f : PlanFile) (periods counts budgets holdings : List ℕ) (k : ℕ) : Type 0 where
   pub period : getD periods k 0 ≡ partIn f k .period

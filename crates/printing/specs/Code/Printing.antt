@@ -2,7 +2,7 @@
 --   noShare == a share with nothing in it, for a place where there is none
 --   listingAt k shares == the `load` line of the k-th share, counted from 1, then every share
 --   shareIn s f rows bounds cs k == what is printed of the part at the place k of the struct `PlanFile`: with the row and the bound at this place, and with
---                                   the ceilings that stand in cs from the place 8 k on
+--                                   the ceilings that stand in cs from the place lockLimit × k on
 --   sharesIn s f rows bounds cs == the same of all its parts, in file order
 --   FineFile f == at most partLimit parts, in as many places, each with as many lock names as locks
 --   ToPrint s f k == the file's counts are fine, k is the number of a part, and the file is not too long to measure
@@ -15,7 +15,7 @@ use mathlib.Core.List.{List, [], _++_, map}
 use lib.ListN.{length, getD}
 use Rattle.least.specs.declared.Frac.{Frac}
 use Rattle.least.specs.Lists.{countFrom, nthOr, joined}
-use Rattle.refusal.specs.Limits.{partLimit}
+use Rattle.refusal.specs.Limits.{partLimit, lockLimit}
 use Rattle.task_set.specs.Code.Partition.{partitionOf}
 use Rattle.task_set.specs.Code.Fine.{FinePart}
 use Rattle.task_set.specs.Code.ByLock.{settingFrom}
@@ -38,7 +38,7 @@ listingAt k shares = loadLine (nthOr noShare k shares) ++ joined (map shareLines
 abbrev pub shareIn : List ℕ → PlanFile → Rows → List Frac → List ℕ → ℕ → Share
 shareIn s f rows bounds cs k =
     let p = getD (f .parts) k blankPart in
-    shareUnder (bytesOf s (p .name)) (namesOf s (p .locks)) (settingFrom cs (8 * k)) (getD (rows .rows) k noRow) (getD bounds k noFrac)
+    shareUnder (bytesOf s (p .name)) (namesOf s (p .locks)) (settingFrom cs (lockLimit * k)) (getD (rows .rows) k noRow) (getD bounds k noFrac)
 
 unfoldable pub sharesIn : List ℕ → PlanFile → Rows → List Frac → List ℕ → List Share
 sharesIn s f rows bounds cs = map (shareIn s f rows bounds cs) (countFrom 0 (f .count))

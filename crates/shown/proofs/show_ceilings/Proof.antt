@@ -1,22 +1,25 @@
 -- `shown::show_ceilings` meets its contract: each turn fills one place, and what the hint says is so.
 -- Assumes nothing.
-use Prim.Native.Nat.{suc, _-_, _≤_, _<_}
+use Prim.Native.Nat.{suc, _-_, _*_, _≤_, _<_}
 use native.Mathlib.Omega.{arith}
 use mathlib.Core.Path.{ap, _∙_}
+use Rattle.least.specs.Code.Stored.{Stored}
+use Rattle.least.proofs.Stores.{store-start, store-step, store-end}
+use Rattle.refusal.specs.Limits.{lockLimit}
 use Rattle.task_set.specs.Code.Partition.{partitionOf}
 use Rattle.task_set.specs.Code.ByColumn.{timesOf}
 use Rattle.task_set.proofs.ByColumn.{columns-fine}
 use Rattle.task_set.proofs.ByLock.{longest-most, deadline-most}
 use Rattle.holding.specs.Code.Search.{HintIs}
+use Rattle.candidates.specs.Candidates.{shownCeiling}
 use Rattle.shown.specs.Code.Shown.{ceilingOr0}
 use Rattle.shown.proofs.Lowest.{shown-by-column}
-use Rattle.shown.proofs.Stores.{ShownTo, show-start, show-step, show-end}
 use Rattle.shown.proofs.show_ceilings.Statement.{statement}
 use Rattle.shown.proofs.show_ceilings.Tie as tie
 
 abbrev Inv-loop : tie.InvT-loop
 Inv-loop part x k ceilings₀ separations costs longest limits lowest first hint₀ j₀ ceilings hint j =
-    (j ≤ part .locks) × ShownTo (partitionOf part) x k j ceilings₀ ceilings × HintIs (timesOf separations costs (part .count)) hint
+    (j ≤ part .locks) × Stored (λ i. shownCeiling (partitionOf part) x (suc i)) (lockLimit * k) j ceilings₀ ceilings × HintIs (timesOf separations costs (part .count)) hint
 
 abbrev μ-loop : tie.MeasureT-loop
 μ-loop part x k ceilings₀ separations costs longest limits lowest first hint₀ j₀ ceilings hint j = part .locks - j
@@ -34,7 +37,7 @@ no-hint-requires : tie.Need-no-hint-requires Inv-loop μ-loop
 no-hint-requires c κs = tt
 
 loop-holds : tie.Need-loop-holds Inv-loop μ-loop
-loop-holds c = (omega arith, show-start _ _ _ _, c .no-hint .ensures _)
+loop-holds c = (omega arith, store-start _ _ _, c .no-hint .ensures _)
 
 mul-lowest-within : tie.Need-mul-lowest-within Inv-loop μ-loop
 mul-lowest-within c = omega (arith, c .before .before .before .before .before .before .before .before .before .before .before .before .before .before .pre .0 .few-locks)
@@ -97,13 +100,13 @@ loop-again c =
     let locks = c .before .before .before .before .before .before .before .before .before .before .before .before .locks-of in
     let found = c .before .before .lowest-within .ensures in
     let is = c .ceiling-or-0 .ensures ∙ ap ceilingOr0 (found .0) ∙ shown-by-column (s .args .part) (s .pre .0) (columns .result) (columns .ensures) (locks .result) (locks .ensures) (s .args .x) (at .j) l in
-    (omega arith, show-step _ _ _ _ (at .ceilings) (at .j) _ (at .inv .1) (omega (arith, s .pre .0 .few-locks, s .pre .1)) (omega (arith, s .pre .0 .few-locks)) is, found .1)
+    (omega arith, store-step _ _ _ (at .ceilings) (at .j) _ (at .inv .1) (omega (arith, s .pre .0 .few-locks, s .pre .1)) is, found .1)
 
 same-length : tie.Need-same-length Inv-loop μ-loop
 same-length c = c .before .before .loop .inv .1 .room
 
 returns : tie.Need-returns Inv-loop μ-loop
-returns c = let l = c .if1 .left in show-end _ _ _ _ _ _ (c .before .before .loop .inv .1) (omega arith)
+returns c = let l = c .if1 .left in store-end _ _ _ _ _ _ (c .before .before .loop .inv .1) (omega arith)
 
 pub show-ceilings-spec : {M : Type 1} → statement M
 show-ceilings-spec =
