@@ -40,9 +40,10 @@ THEOREMS = [
     ('supply', 'supply-signed', 'SignsMakeNoDifference'),
     ('supply', 'linear-under-supply', 'LinearUnderSupply'),
     ('first_principles', 'first-principles', 'FirstPrinciples'),
+    ('private_locks', 'private-locks', 'PrivateLocks'),
 ]
-# How many rows of the table of examples each letter has.
-ROWS = {'A': 1, 'B': 5, 'C': 2, 'D': 1, 'E': 1, 'F': 1, 'G': 1, 'H': 1, 'I': 1, 'J': 1, 'K': 5, 'L': 3}
+# How many rows of the table of examples each letter of paper 01 has, and each request of paper 02 with examples there.
+ROWS = {'A': 1, 'B': 5, 'C': 2, 'D': 1, 'E': 1, 'F': 1, 'G': 1, 'H': 1, 'I': 1, 'J': 1, 'K': 5, 'L': 3, 'M100': 4}
 
 
 def listed(top):

@@ -13,6 +13,7 @@ PAGES = {
     REQUESTS: [
         'crates/scan/specs/Line.antt', 'crates/scan/specs/Scan.antt', 'crates/ranges/specs/Ranges.antt',
         'crates/delivery/specs/Assignment.antt', 'crates/first_principles/specs/FirstPrinciples.antt', 'crates/supply/specs/Linear.antt',
+        'crates/private_locks/specs/PrivateLocks.antt',
     ],
 }
 NAMED = {
@@ -20,22 +21,24 @@ NAMED = {
         'crates/answers/specs/Answers.antt': ['planned', 'bufferAfter', 'HandedOver', 'PlanAnswered'],
         'crates/answers/specs/Plan.antt': ['partitions'],
         'crates/load/specs/Weigh.antt': ['RowFits'],
-        'crates/plan_file/specs/Numbers.antt': ['PlanPart', 'planPart', 'planParts', 'partsOf', 'partAt'],
+        'crates/plan_file/specs/Numbers.antt': ['PlanPart', 'namers', 'isSharedIn', 'planPart', 'planParts', 'partsOf', 'noPlanPart', 'partAt'],
         'crates/plan_file/specs/PartLines.antt': ['ownLines', 'linesByPart', 'linesOfPart'],
         'crates/refusal/specs/Limits.antt': ['keptLimit'],
         'crates/refusal/specs/Number.antt': ['isOfTheFile'],
-        'crates/task_set/specs/Partition.antt': ['Partition'],
+        'crates/task_set/specs/Partition.antt': ['Partition', 'isShared', 'sharedLocks'],
         'crates/supply/specs/Signed.antt': ['larger', 'ceilOf', 'signedRound', 'signedAt', 'signedSupply'],
     },
     REQUESTS: {
         'crates/text/specs/Bytes.antt': ['Line', 'intoLine', 'linesOf'],
         'crates/refusal/specs/Limits.antt': ['numberLimit'],
+        'crates/holding/specs/Holding.antt': ['highestCeiling', 'inRange', 'permitted', 'holdingTimeOf'],
+        'crates/candidates/specs/Candidates.antt': ['shownCeiling'],
         'crates/supply/specs/Supply.antt': ['roundOf', 'supplyAt', 'supplyOf'],
         'crates/supply/specs/Signed.antt': ['SignsMakeNoDifference'],
     },
 }
 # The crates with the proofs of what the pages say.
-PROVERS = ['answers', 'planner', 'examples', 'scan', 'ranges', 'supply', 'delivery', 'first_principles']
+PROVERS = ['answers', 'planner', 'examples', 'scan', 'ranges', 'supply', 'delivery', 'first_principles', 'private_locks']
 
 
 def without_comments(text, antt):

@@ -16,12 +16,12 @@
 #include <stddef.h>
 #include <stdint.h>
 
-/* MAJOR moves when a caller must change something, MINOR when something is new, PATCH when neither
- * is so. */
+/* MAJOR moves when a caller must change something, MINOR when something is new or a rule of the
+ * answers has changed, PATCH when neither is so. */
 #define PLANNER_VERSION_MAJOR 1
-#define PLANNER_VERSION_MINOR 0
+#define PLANNER_VERSION_MINOR 1
 #define PLANNER_VERSION_PATCH 0
-#define PLANNER_VERSION "1.0.0"
+#define PLANNER_VERSION "1.1.0"
 
 /* The greatest number of a file, and the greatest period, budget, holding time and time set by hand;
  * the most bytes of a file, pairs of a kept list and rows of a weighing; bytes enough for any
@@ -32,9 +32,9 @@ enum { PLANNER_MOST_ROWS = 16, PLANNER_ROOM = 8192 };
 /* Bytes of stack that a call needs, its answer included. A program that binds memcpy and memset only
  * when they are first called (no -static, no -z now) needs some KB more in that call. */
 enum {
-    PLANNER_STACK_PLAN = 152 * 1024,
-    PLANNER_STACK_CANDIDATES = 66 * 1024,
-    PLANNER_STACK_NAME = 58 * 1024,
+    PLANNER_STACK_PLAN = 153 * 1024,
+    PLANNER_STACK_CANDIDATES = 68 * 1024,
+    PLANNER_STACK_NAME = 60 * 1024,
     PLANNER_STACK_WEIGH = 4 * 1024,
     PLANNER_STACK_SUPPLY = 1 * 1024
 };
@@ -44,14 +44,17 @@ extern "C" {
 #endif
 
 /* The plan of a file: its listing is in the first `written` bytes of `out`, the others stay as they
- * were. PLANNER_ROOM bytes are enough. */
+ * were. PLANNER_ROOM bytes are enough. A lock that just one part of the file names is private: it
+ * always has its lowest ceiling, the number of its highest user, and enters no holding time. */
 typedef struct {
     uint64_t number, place;
     size_t written;
 } planner_plan_answer;
 planner_plan_answer planner_plan(const uint8_t *file, size_t length, uint8_t *out, size_t room);
 
-/* The kept list of a part, counted from 1: budgets Q with holding times X, in falling X. */
+/* The kept list of a part, counted from 1: budgets Q with holding times X, in falling X. X is that
+ * of the part's shared locks, those that another part names too; 0 without any. So the list depends
+ * on the part's own lines and on which of its locks the rest of the file names. */
 typedef struct {
     uint64_t budget, holding;
 } planner_pair;

@@ -7,8 +7,10 @@ pub const FIELDS: [(&str, usize); 5] = [
     ("part\tp\t10\ntask\tt\t#\t1\t1\nend\n", 2),
     ("part\tp\t1000000\ntask\tt\t1000000\t#\t1000000\nend\n", 2),
     ("part\tp\t10\ntask\tt\t1000000\t1\t#\nend\n", 2),
+    // A second part names the lock: it is shared, and its holding time counts.
     (
-        "part\tp\t1000000\ntask\tt\t1000000\t1000000\t1000000\nlock\tl\t#\nend\n",
+        "part\tp\t1000000\ntask\tt\t1000000\t1000000\t1000000\nlock\tl\t#\n\
+         part\to\t250\ntask\tu\t1000\t1\t1000\nlock\tl\t1\nend\n",
         3,
     ),
 ];

@@ -54,6 +54,8 @@ pub struct Part<'f> {
     pub tasks: Vec<Task<'f>>,
     /// Lock names in order of first mention.
     pub locks: Vec<Name<'f>>,
+    /// Which of these locks another part names too; the others are private.
+    pub shared: [bool; MOST_LOCKS],
 }
 
 /// A task: least separation T, worst execution time C, deadline D, and the locks it holds.
@@ -97,8 +99,26 @@ pub fn read(file: &[u8]) -> Result<Vec<Part<'_>>, Refusal> {
         start = line.end + 1;
     }
     match reader.above {
-        Above::End => Ok(reader.parts),
+        Above::End => {
+            mark_shared(&mut reader.parts);
+            Ok(reader.parts)
+        }
         _ => refuse(4, number + 1),
+    }
+}
+
+/// Marks the locks that at least two parts name. A part has each name once, so equal names are of
+/// different parts.
+fn mark_shared(parts: &mut [Part]) {
+    let mut names = Vec::with_capacity(MOST_PARTS * MOST_LOCKS);
+    for (part, of) in parts.iter().enumerate() {
+        names.extend((0..of.locks.len()).map(|lock| (of.locks[lock].packed, part, lock)));
+    }
+    names.sort_unstable();
+    for pair in names.windows(2).filter(|pair| pair[0].0 == pair[1].0) {
+        for &(_, part, lock) in pair {
+            parts[part].shared[lock] = true;
+        }
     }
 }
 
@@ -232,6 +252,7 @@ impl<'f> Reader<'f> {
             period,
             tasks: Vec::with_capacity(MOST_TASKS),
             locks: Vec::with_capacity(MOST_LOCKS),
+            shared: [false; MOST_LOCKS],
         });
         self.above = Above::Part;
         Ok(())

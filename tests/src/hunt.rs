@@ -2,6 +2,7 @@
 //! small changes it goes on ([`changes`]), and a search counted in turns ([`turns`]). Every file
 //! that is made here is readable, unless it is too long.
 
+use std::array;
 use std::fmt::Write;
 
 use crate::file::{self, LARGEST_NUMBER, LONGEST_FILE, MOST_LOCKS, MOST_PARTS, MOST_TASKS};
@@ -10,7 +11,7 @@ pub mod changes;
 pub mod starts;
 pub mod turns;
 
-/// A plan file without its names.
+/// A plan file without its names but for which locks are the same.
 #[derive(Clone, Debug, PartialEq, Eq)]
 pub struct Sketch {
     pub parts: Vec<Part>,
@@ -19,6 +20,8 @@ pub struct Sketch {
 #[derive(Clone, Debug, PartialEq, Eq)]
 pub struct Part {
     pub period: u64,
+    /// The name of each lock as a number, all different. Parts share a lock by naming it alike.
+    pub names: [usize; MOST_LOCKS],
     /// Later tasks have higher priority.
     pub tasks: Vec<Task>,
 }
@@ -34,7 +37,7 @@ pub struct Task {
 
 impl Sketch {
     /// What is kept of a plan file, if it is readable.
-    pub fn read(bytes: &[u8]) -> Option<Self> {
+    pub fn read<'b>(bytes: &'b [u8]) -> Option<Self> {
         let parts = file::read(bytes).ok()?;
         let task = |task: &file::Task| Task {
             separation: task.separation,
@@ -42,8 +45,24 @@ impl Sketch {
             deadline: task.deadline,
             held: task.held,
         };
-        let part = |part: &file::Part| Part {
+        let mut known: Vec<&[u8]> = Vec::new();
+        let mut names = |part: &file::Part<'b>| {
+            let mut names = Vec::with_capacity(MOST_LOCKS);
+            for lock in &part.locks {
+                let number = known.iter().position(|&name| name == lock.bytes);
+                names.push(number.unwrap_or(known.len()));
+                if number.is_none() {
+                    known.push(lock.bytes);
+                }
+            }
+            let unused = (0..).filter(|number| !names.contains(number));
+            let unused: Vec<usize> = unused.take(MOST_LOCKS - names.len()).collect();
+            names.extend(unused);
+            array::from_fn(|lock| names[lock])
+        };
+        let part = |part: &file::Part<'b>| Part {
             period: part.period,
+            names: names(part),
             tasks: part.tasks.iter().map(task).collect(),
         };
         Some(Sketch {
@@ -58,10 +77,15 @@ impl Sketch {
         }
     }
 
-    /// The plan file, unless it is too long.
+    /// The plan file, unless it is too long. Behind a part that stands alone comes a small one that
+    /// names its locks, so that they are shared, as they are where the part is repeated.
     pub fn bytes(&self) -> Option<Vec<u8>> {
+        let namer = match &self.parts[..] {
+            [alone] => alone.namer(),
+            _ => None,
+        };
         let mut text = String::new();
-        for (index, part) in self.parts.iter().enumerate() {
+        for (index, part) in self.parts.iter().chain(&namer).enumerate() {
             writeln!(text, "part\tp{index}\t{}", part.period).ok()?;
             for (index, task) in part.tasks.iter().enumerate() {
                 let Task {
@@ -76,7 +100,7 @@ impl Sketch {
                 )
                 .ok()?;
                 for (lock, held) in held.iter().enumerate().filter(|(_, &held)| held > 0) {
-                    writeln!(text, "lock\tl{lock}\t{held}").ok()?;
+                    writeln!(text, "lock\tl{:02x}\t{held}", part.names[lock]).ok()?;
                 }
             }
         }
@@ -124,6 +148,28 @@ impl Task {
 }
 
 impl Part {
+    /// A part with lock names that others so made have too.
+    fn new(period: u64, tasks: Vec<Task>) -> Self {
+        Part {
+            period,
+            names: array::from_fn(|lock| lock),
+            tasks,
+        }
+    }
+
+    /// A small part that names the locks of this one, if it has any.
+    fn namer(&self) -> Option<Self> {
+        let mut task = Task::new(LARGEST_NUMBER, 1);
+        for (lock, held) in task.held.iter_mut().enumerate() {
+            *held = self.tasks.iter().any(|task| task.held[lock] > 0).into();
+        }
+        let names = self.names;
+        task.held.contains(&1).then(|| Part {
+            names,
+            ..Part::new(1000, vec![task])
+        })
+    }
+
     fn utilisation(&self) -> f64 {
         self.tasks.iter().map(Task::utilisation).sum()
     }

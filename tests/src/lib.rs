@@ -12,6 +12,7 @@
 //! - [`hunt`]: plan files that take long, made and changed
 //! - [`programs`]: the programs under crates/ and what each must print
 //! - [`delivery`]: the ticks that a budget gives, by brute force
+//! - [`page`]: the blocks and tables of a page of the documentation
 //! - [`by_hand`]: the numbers that the test program of that name hands over
 //! - `library`: the planner's own library, with the feature of that name
 //!
@@ -29,6 +30,7 @@ pub mod library;
 pub mod listing;
 pub mod literal;
 pub mod local;
+pub mod page;
 pub mod programs;
 pub mod random;
 pub mod system;

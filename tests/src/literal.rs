@@ -17,6 +17,8 @@ pub struct Part {
     pub name: String,
     pub period: i64,
     pub tasks: Vec<Task>,
+    /// Its shared locks: those that another part of the file names too.
+    pub shared: BTreeSet<String>,
 }
 
 #[derive(Clone, Debug, PartialEq, Eq)]
@@ -171,6 +173,7 @@ fn parts_of(records: &[Vec<String>]) -> Vec<Part> {
                 name: fields[1].clone(),
                 period: numbers[0],
                 tasks: Vec::new(),
+                shared: BTreeSet::new(),
             }),
             "task" => parts.last_mut().expect("a part above").tasks.push(Task {
                 name: fields[1].clone(),
@@ -186,6 +189,12 @@ fn parts_of(records: &[Vec<String>]) -> Vec<Part> {
             }
             _ => {}
         }
+    }
+    for number in 0..parts.len() {
+        let of_others = (0..parts.len()).filter(|&other| other != number);
+        let named: BTreeSet<String> = of_others.flat_map(|other| parts[other].locks()).collect();
+        let locks = parts[number].locks().into_iter();
+        parts[number].shared = locks.filter(|lock| named.contains(lock)).collect();
     }
     parts
 }
@@ -246,14 +255,29 @@ impl Part {
         names
     }
 
-    /// Every setting, permitted or not.
+    /// A lock that is named in just one part of the file.
+    fn is_private(&self, lock: &str) -> bool {
+        !self.shared.contains(lock)
+    }
+
+    /// The greatest task number that uses the lock.
+    fn lowest_ceiling(&self, lock: &str) -> usize {
+        self.users(lock).into_iter().max().unwrap_or(1)
+    }
+
+    /// Every setting, permitted or not. A private lock keeps its lowest ceiling.
     pub fn settings(&self) -> Vec<Setting> {
         let mut settings = vec![Setting::new()];
         for lock in self.locks() {
-            let lowest = self.users(&lock).into_iter().max().unwrap_or(1);
+            let lowest = self.lowest_ceiling(&lock);
+            let highest = if self.is_private(&lock) {
+                lowest
+            } else {
+                self.tasks.len()
+            };
             let mut longer = Vec::new();
             for setting in &settings {
-                for r in lowest..=self.tasks.len() {
+                for r in lowest..=highest {
                     let mut setting = setting.clone();
                     setting.push((lock.clone(), r));
                     longer.push(setting);
@@ -264,7 +288,7 @@ impl Part {
         settings
     }
 
-    /// The lock's holding time at ceiling r, if it exists and is at most the smallest deadline
+    /// A shared lock's holding time at ceiling r, if it exists and is at most the smallest deadline
     /// among its users.
     pub fn permitted_holding_time(&self, lock: &str, r: usize) -> Option<i64> {
         let users = self.users(lock);
@@ -279,16 +303,18 @@ impl Part {
         (1..=smallest).find(|&w| g + higher(w) <= w)
     }
 
-    /// X of a permitted setting; nothing for one that is not permitted.
+    /// X of a permitted setting; nothing for one that is not permitted. A private lock has no
+    /// holding time, asks no permission and does not enter X.
     pub fn holding_time(&self, setting: &Setting) -> Option<i64> {
         let mut greatest = 0;
-        for (lock, r) in setting {
+        let shared = setting.iter().filter(|(lock, _)| !self.is_private(lock));
+        for (lock, r) in shared {
             greatest = greatest.max(self.permitted_holding_time(lock, *r)?);
         }
         Some(greatest)
     }
 
-    /// Blocking of task i.
+    /// Blocking of task i, by private locks too.
     pub fn blocking(&self, setting: &Setting, i: usize) -> i64 {
         let mut greatest = 0;
         for (lock, r) in setting {
@@ -336,10 +362,13 @@ impl Part {
         keep(&self.pairs().1)
     }
 
-    /// The ceilings shown for a pair with this X.
+    /// The ceilings shown for a pair with this X: of a private lock its lowest.
     pub fn ceilings_shown(&self, x: i64) -> Setting {
         let shown = |lock: &String| {
-            let lowest = self.users(lock).into_iter().max()?;
+            let lowest = self.lowest_ceiling(lock);
+            if self.is_private(lock) {
+                return Some((lock.clone(), lowest));
+            }
             let fits = |&r: &usize| self.permitted_holding_time(lock, r).is_some_and(|w| w <= x);
             let r = (lowest..=self.tasks.len()).find(fits)?;
             Some((lock.clone(), r))

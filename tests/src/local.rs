@@ -4,7 +4,8 @@
 //! The search walks the settings that matter in falling holding time X. For a limit x the lowest
 //! ceilings whose holding times keep within x block least, so no other setting within x needs a
 //! smaller budget. It starts without a limit; the next limit is X − 1. Ceilings only rise on the
-//! way, so blockings and the least budget only rise too.
+//! way, so blockings and the least budget only rise too. A private lock takes no part in this: it
+//! keeps its lowest ceiling, and its holding time counts as 0.
 
 use crate::file::{Part, Task, MOST_TASKS};
 
@@ -42,7 +43,7 @@ impl Pair {
 struct Lock {
     /// The lowest permitted ceiling; none is permitted if it is above the number of tasks.
     lowest: usize,
-    /// The holding time at each permitted ceiling.
+    /// The holding time at each permitted ceiling; 0 for a private lock.
     holding: [u64; MOST_TASKS + 1],
 }
 
@@ -59,7 +60,7 @@ pub fn candidates(part: &Part) -> Vec<Pair> {
 
 impl<'p> Local<'p> {
     pub fn new(part: &'p Part<'p>) -> Self {
-        let locks = (0..part.locks.len()).map(|lock| Lock::new(&part.tasks, lock));
+        let locks = (0..part.locks.len()).map(|lock| Lock::new(part, lock));
         Local {
             part,
             locks: locks.collect(),
@@ -174,20 +175,27 @@ impl<'p> Local<'p> {
 }
 
 impl Lock {
-    /// Works out the holding times of a lock from the top ceiling down, until one exceeds the
-    /// smallest deadline among the lock's users.
-    fn new(tasks: &[Task], lock: usize) -> Self {
-        let users = || tasks.iter().filter(|task| task.held[lock] > 0);
-        let longest = users().map(|task| task.held[lock]).max().unwrap_or(0);
-        let limit = users().map(|task| task.deadline).min().unwrap_or(0);
+    /// Works out the holding times of a shared lock from the top ceiling down, until one exceeds
+    /// the smallest deadline among the lock's users.
+    fn new(part: &Part, lock: usize) -> Self {
+        let tasks = &part.tasks;
         let lowest_ceiling = tasks
             .iter()
             .rposition(|task| task.held[lock] > 0)
             .map_or(1, |k| k + 1);
-
+        let holding = [0; MOST_TASKS + 1];
+        if !part.shared[lock] {
+            return Lock {
+                lowest: lowest_ceiling,
+                holding,
+            };
+        }
+        let users = || tasks.iter().filter(|task| task.held[lock] > 0);
+        let longest = users().map(|task| task.held[lock]).max().unwrap_or(0);
+        let limit = users().map(|task| task.deadline).min().unwrap_or(0);
         let mut found = Lock {
             lowest: tasks.len() + 1,
-            holding: [0; MOST_TASKS + 1],
+            holding,
         };
         let mut start = longest;
         for ceiling in (lowest_ceiling..=tasks.len()).rev() {

@@ -2,7 +2,7 @@
 
 use std::ops::RangeInclusive;
 
-use crate::file::{LARGEST_NUMBER, LONGEST_FILE};
+use crate::file::{LARGEST_NUMBER, LONGEST_FILE, MOST_LOCKS};
 
 /// A xorshift generator.
 pub struct Random(u64);
@@ -148,6 +148,8 @@ pub fn valid(random: &mut Random, sizes: &Sizes) -> Vec<u8> {
     } else {
         (2 * shortest / (parts + 2)).max(1)
     };
+    // How many of four locks have a name of their part alone, about.
+    let own = random.within(0..=3).saturating_sub(1);
 
     let mut file = String::new();
     for (index, &period) in (0..).zip(&periods) {
@@ -159,32 +161,81 @@ pub fn valid(random: &mut Random, sizes: &Sizes) -> Vec<u8> {
             tight_tasks(random, sizes, period, parts)
         };
         let locks = random.within(sizes.locks.clone()).max(random.within(0..=1));
-        for (index, task) in (0..).zip(&tasks) {
+        // The other names are the same few in all parts. Most names have a low task that surely
+        // uses them, so that most of these are shared.
+        let locks: Vec<(String, Option<usize>)> = (0..locks)
+            .map(|lock| {
+                let name = if random.within(0..=3) < own {
+                    format!("l{lock}of{index}")
+                } else {
+                    format!("l{lock}")
+                };
+                let user = random.index(tasks.len() / 5 + 1);
+                (name, (!random.once_in(4)).then_some(user))
+            })
+            .collect();
+        for (place, task) in tasks.iter().enumerate() {
             let Task {
                 separation,
                 execution,
                 deadline,
                 ..
             } = task;
-            let name = name(random, 't', index);
+            let name = name(random, 't', place as u64);
             file += &format!("task\t{name}\t{separation}\t{execution}\t{deadline}\n");
             let most = longest_held.min(*execution);
-            // The same few names in all parts, not always first mentioned in order.
-            let first = random.within(0..=7);
-            for lock in (0..locks).map(|lock| (first + lock) % locks) {
-                if random.once_in(task.lock_once_in) {
+            // Not always first mentioned in order.
+            let first = random.index(8);
+            for lock in 0..locks.len() {
+                let (name, user) = &locks[(first + lock) % locks.len()];
+                if *user == Some(place) || random.once_in(task.lock_once_in) {
                     let held = if random.once_in(2) {
                         most
                     } else {
                         random.within(1..=most)
                     };
-                    file += &format!("lock\tl{lock}\t{held}\n");
+                    file += &format!("lock\t{name}\t{held}\n");
                 }
             }
         }
     }
     file += "end\n";
     file.into_bytes()
+}
+
+/// The lock names of a readable file, each once.
+pub fn lock_names(file: &[u8]) -> Vec<String> {
+    let mut names: Vec<String> = Vec::new();
+    for line in String::from_utf8_lossy(file).lines() {
+        if let ["lock", name, _] = line.split('\t').collect::<Vec<&str>>()[..] {
+            if !names.iter().any(|known| known == name) {
+                names.push(name.to_owned());
+            }
+        }
+    }
+    names
+}
+
+/// A readable file with a part behind its others that has one short task and names these locks.
+pub fn with_part_naming<S: AsRef<str>>(file: &[u8], names: &[S]) -> Vec<u8> {
+    let lines = file.strip_suffix(b"end\n").unwrap_or(file);
+    let mut file = String::from_utf8_lossy(lines).into_owned();
+    file += "part\to\t250\ntask\tu\t1000\t1\t1000\n";
+    for name in names {
+        file += &format!("lock\t{}\t1\n", name.as_ref());
+    }
+    file += "end\n";
+    file.into_bytes()
+}
+
+/// A readable file with such a part: it names up to eight of its locks, mostly all of them.
+pub fn named_elsewhere(random: &mut Random, file: &[u8]) -> Vec<u8> {
+    let mut names = lock_names(file);
+    if random.once_in(4) {
+        names.retain(|_| random.once_in(2));
+    }
+    names.truncate(MOST_LOCKS);
+    with_part_naming(file, &names)
 }
 
 struct Task {
@@ -274,7 +325,7 @@ fn name(random: &mut Random, letter: char, index: u64) -> String {
 }
 
 /// The file with one or a few faults: bytes changed, put in or taken out, lines doubled, dropped
-/// or swapped, numbers made long, the end cut off.
+/// or swapped, numbers made long, lock names misspelt, the end cut off.
 pub fn damaged(random: &mut Random, file: &[u8]) -> Vec<u8> {
     let mut bytes = file.to_vec();
     for _ in 0..random.within(1..=2) {
@@ -338,7 +389,7 @@ fn damage(random: &mut Random, bytes: &mut Vec<u8>) {
         return;
     }
     let place = random.index(bytes.len());
-    match random.within(0..=11) {
+    match random.within(0..=12) {
         0 => bytes[place] = odd_byte(random),
         1 => bytes.insert(place, odd_byte(random)),
         2 => {
@@ -376,6 +427,18 @@ fn damage(random: &mut Random, bytes: &mut Vec<u8>) {
                 })
                 .collect();
             bytes.splice(start..start, run.into_bytes());
+        }
+        8 => {
+            // Another last letter: that lock may be private then, or another one shared.
+            let word = b"\nlock\t";
+            let locks = bytes[place..].windows(word.len());
+            if let Some(at) = locks.into_iter().position(|bytes| bytes == word) {
+                let name = place + at + word.len();
+                let tab = bytes[name..].iter().position(|&byte| byte == b'\t');
+                if let Some(length) = tab.filter(|&length| length > 0) {
+                    bytes[name + length - 1] = b"0123456789abcxyz"[random.index(16)];
+                }
+            }
         }
         _ => {
             let mut lines: Vec<Vec<u8>> = bytes

@@ -4,6 +4,7 @@
 use std::fs;
 
 use reference::delivery::{delivers, early_then_late, given, least_given, Assignment};
+use reference::page::{blocks, table};
 use reference::random::Random;
 use reference::{literal, supply_answer};
 
@@ -115,21 +116,6 @@ fn m108_no_delivery_gives_fewer() {
 
 // ---- docs/GUIDE.md ----
 
-/// The lines of a block of the guide, between the marks of a block, from the one that has this
-/// first word on.
-fn block(guide: &str, first: &str) -> Vec<String> {
-    let lines = guide.lines().skip_while(|line| !line.starts_with(first));
-    lines
-        .take_while(|line| !line.is_empty() && *line != "```")
-        .map(String::from)
-        .collect()
-}
-
-/// The cells of a line of a table.
-fn cells(line: &str) -> Vec<&str> {
-    line.trim_matches('|').split('|').map(str::trim).collect()
-}
-
 /// The fewest given ticks in any window of so many, of those that the picture has.
 fn fewest(ticks: &[bool], time: usize) -> usize {
     let starts = 0..=ticks.len() - time;
@@ -145,7 +131,9 @@ fn m108_what_the_guide_shows() {
     let guide = fs::read_to_string(path).expect("the guide");
     let (period, budget) = (10, 3);
     let mut picture = Vec::new();
-    for line in block(&guide, "steady") {
+    let mut blocks = blocks(&guide).into_iter().map(|(_, lines)| lines);
+    let drawn = blocks.find(|lines| lines[0].starts_with("steady"));
+    for line in drawn.expect("a picture") {
         let (name, ticks) = line.split_once(' ').expect("a name and ticks");
         let ticks: Assignment = ticks.trim().chars().map(|tick| tick == '#').collect();
         assert_eq!(ticks.len(), 4 * period, "{name}");
@@ -155,8 +143,8 @@ fn m108_what_the_guide_shows() {
     assert_eq!(picture.len(), 3);
     assert_eq!(picture[2].1, early_then_late(period, budget, 4));
 
-    let table = block(&guide, "| ticks in a row |");
-    let times: Vec<usize> = cells(&table[0])[1..]
+    let table = table(&guide, "| ticks in a row |");
+    let times: Vec<usize> = table[0][1..]
         .iter()
         .map(|cell| cell.parse().expect("a time"))
         .collect();
@@ -177,9 +165,8 @@ fn m108_what_the_guide_shows() {
         "the linear value".to_string(),
         row(&|time| format!("{}.{}", tenths(time) / 10, tenths(time) % 10)),
     ));
-    assert_eq!(table.len(), rows.len() + 2);
-    for ((name, figures), line) in rows.iter().zip(&table[2..]) {
-        let cells = cells(line);
+    assert_eq!(table.len(), rows.len() + 1);
+    for ((name, figures), cells) in rows.iter().zip(&table[1..]) {
         assert_eq!(cells[0], name);
         assert_eq!(cells[1..], figures[..]);
     }

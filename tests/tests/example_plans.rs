@@ -6,23 +6,10 @@ use std::fmt::Display;
 use std::fs;
 use std::path::{Path, PathBuf};
 
-use reference::{library, system::Row, Refusal};
+use reference::{library, page::blocks, system::Row, Refusal};
 
 fn folder() -> PathBuf {
     Path::new(env!("CARGO_MANIFEST_DIR")).join("../examples")
-}
-
-/// The titles and the lines of the blocks between ``` marks.
-fn blocks(page: &str) -> Vec<(&str, Vec<&str>)> {
-    let mut blocks = Vec::new();
-    let mut lines = page.lines();
-    while let Some(line) = lines.next() {
-        if let Some(title) = line.strip_prefix("```") {
-            let block = lines.by_ref().take_while(|line| *line != "```");
-            blocks.push((title, block.collect()));
-        }
-    }
-    blocks
 }
 
 /// The numbers of a line, before the colon.

@@ -1,10 +1,10 @@
-//! What the hunt makes is readable, and its two searches find the same.
+//! What the hunt makes is readable, its locks are shared, and its two searches find the same.
 
-use reference::file::{read, LARGEST_NUMBER};
+use reference::file::{self, read, LARGEST_NUMBER, MOST_PARTS};
 use reference::hunt::changes::change;
 use reference::hunt::starts::{start, tight_above, Kind};
 use reference::hunt::turns::{Column, Search};
-use reference::hunt::Sketch;
+use reference::hunt::{Part, Sketch};
 use reference::random::Random;
 use reference::timing;
 
@@ -43,6 +43,51 @@ fn files_are_readable() {
         }
     }
     assert!(readable > 18_000, "{readable} files");
+}
+
+/// In a file with this part alone, and with it 16 times: are all of its locks shared?
+fn locks_are_shared(part: &Part) -> bool {
+    [1, MOST_PARTS].iter().all(|&times| {
+        let bytes = Sketch::repeated(part, times).bytes();
+        let bytes = bytes.expect("a file that is not too long");
+        let first = &read(&bytes).expect("a readable file")[0];
+        first.shared[..first.locks.len()]
+            .iter()
+            .all(|&shared| shared)
+    })
+}
+
+#[test]
+fn locks_of_a_part_alone_are_shared() {
+    let random = &mut Random::new(5);
+    let timed = timed();
+    let mut with_locks = 0;
+    for _ in 0..200 {
+        let mut sketch = start(random, Kind::Parts, &timed, &timed[0]);
+        for _ in 0..20 {
+            change(random, &mut sketch);
+        }
+        let part = &sketch.parts[0];
+        assert!(locks_are_shared(part), "{part:?}");
+        let held = part.tasks.iter().flat_map(|task| task.held).max();
+        with_locks += u32::from(held > Some(0));
+    }
+    assert!(with_locks > 100, "{with_locks} parts with locks");
+}
+
+#[test]
+fn which_locks_are_shared_is_kept() {
+    // The locks of each part, and which of them are shared.
+    let shared = |bytes: &[u8]| {
+        let parts = read(bytes).expect("a readable file");
+        let of_part = |part: &file::Part| (part.locks.len(), part.shared);
+        parts.iter().map(of_part).collect::<Vec<_>>()
+    };
+    for timed in timing::files().expect("the bench files") {
+        let sketch = Sketch::read(&timed.bytes).expect("a readable file");
+        let bytes = sketch.bytes().expect("a file that is not too long");
+        assert_eq!(shared(&bytes), shared(&timed.bytes), "{}", timed.name);
+    }
 }
 
 #[test]

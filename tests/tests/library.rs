@@ -94,7 +94,8 @@ fn rounds(number: usize) -> usize {
     number * times.unwrap_or(1)
 }
 
-/// Made-up files, each whole, damaged, and with numbers near the limits.
+/// Made-up files, each whole, damaged, with numbers near the limits, and with one more part that
+/// names its locks.
 fn made_up(random: &mut Random, rounds: usize) -> Vec<Vec<u8>> {
     let sizes = [
         Sizes::one_part(),
@@ -108,6 +109,7 @@ fn made_up(random: &mut Random, rounds: usize) -> Vec<Vec<u8>> {
         let file = random::valid(random, &sizes[round % sizes.len()]);
         files.push(random::damaged(random, &file));
         files.push(random::extreme(random, &file));
+        files.push(random::named_elsewhere(random, &file));
         files.push(file);
     }
     files

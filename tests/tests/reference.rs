@@ -91,6 +91,8 @@ fn every_program_is_expected_to_print_what_the_reference_gives() {
 /// A part in the form of the literal reader.
 fn by_name(part: &Part) -> literal::Part {
     let text = |name: &[u8]| lossy(name);
+    let locks = part.locks.iter().zip(part.shared);
+    let shared = locks.filter(|&(_, shared)| shared);
     let task = |task: &file::Task| literal::Task {
         name: text(task.name.bytes),
         separation: task.separation as i64,
@@ -107,10 +109,12 @@ fn by_name(part: &Part) -> literal::Part {
         name: text(part.name.bytes),
         period: part.period as i64,
         tasks: part.tasks.iter().map(task).collect(),
+        shared: shared.map(|(name, _)| text(name.bytes)).collect(),
     }
 }
 
-/// The same parts, lock names in the same order of first mention; or the same refusal.
+/// The same parts, lock names in the same order of first mention, the same of them shared; or the
+/// same refusal.
 fn same_reading(bytes: &[u8]) -> (u32, usize) {
     let fast = file::read(bytes);
     let slow = literal::read(bytes);
@@ -199,6 +203,9 @@ struct Seen {
     refused_11: usize,
     longer_lists: usize,
     later_pairs: usize,
+    only_private: usize,
+    only_shared: usize,
+    mixed: usize,
 }
 
 #[test]
@@ -232,6 +239,13 @@ fn small_plans_equal_brute_force() {
             same_candidates(&file, number);
             let pairs = local::candidates(part);
             seen.longer_lists += usize::from(pairs.len() > 1);
+            let shared = &part.shared[..part.locks.len()];
+            match (shared.contains(&false), shared.contains(&true)) {
+                (true, true) => seen.mixed += 1,
+                (true, false) => seen.only_private += 1,
+                (false, true) => seen.only_shared += 1,
+                (false, false) => {}
+            }
             if let (Ok(listing), Some(first)) = (&slow, pairs.first()) {
                 let share = format!(
                     "share\t{}\t{}\t{}\t{}\t",
@@ -251,9 +265,13 @@ fn small_plans_equal_brute_force() {
         refused_11,
         longer_lists,
         later_pairs,
+        only_private,
+        only_shared,
+        mixed,
     } = seen;
     assert!(planned > 500 && refused_10 > 100 && refused_11 > 100);
     assert!(longer_lists > 100 && later_pairs > 10);
+    assert!(only_private > 500 && only_shared > 500 && mixed > 100);
 }
 
 /// Every part's list and the plan built from these; there are too many choices for all budgets.
@@ -275,8 +293,15 @@ fn example_plans_equal_brute_force() {
 fn lists_and_ceilings_of_one_part_equal_brute_force() {
     let mut random = Random::new(3);
     let mut longest = 0;
-    for _ in 0..700 {
-        let file = random::valid(&mut random, &Sizes::one_part());
+    let larger = Sizes {
+        tasks: 4..=6,
+        period: 30..=60,
+        ..Sizes::one_part()
+    };
+    for round in 0..700 {
+        let sizes = [Sizes::one_part(), larger.clone()];
+        let file = random::valid(&mut random, &sizes[round % 2]);
+        let file = random::named_elsewhere(&mut random, &file);
         let parts = file::read(&file).expect("a readable file");
         let slow = literal::read(&file).expect("a readable file").remove(0);
         let local = Local::new(&parts[0]);
@@ -471,8 +496,13 @@ fn a_with_card(period: u64) -> Vec<u8> {
     w(&lines)
 }
 
-/// Table 1 of document 001, all times doubled.
-fn table_1() -> Vec<u8> {
+/// Table 1 of document 001, all times doubled, and a second part that names these locks.
+fn table_1(locks: &[&str]) -> Vec<u8> {
+    random::with_part_naming(&table_1_alone(), locks)
+}
+
+/// The same without a second part.
+fn table_1_alone() -> Vec<u8> {
     w(&[
         "part s 250",
         "task t1 1500 16 1500",
@@ -516,7 +546,8 @@ fn examples_a_to_l() {
     assert_eq!(load_line(&a_with_card(10)), "load card 10 10"); // C
     assert_eq!(load_line(&a_with_card(9)), "load card 9 9"); // D
     assert_eq!(planned(&a_with_card(8)), (11, 0)); // E
-    assert_eq!(kept(&table_1(), 1), [(102, 26), (105, 24), (112, 20)]); // F
+    let f = table_1(&["r1", "r2"]);
+    assert_eq!(kept(&f, 1), [(102, 26), (105, 24), (112, 20)]); // F
     assert_eq!(
         weighed(&[(96, 2, 2), (20, 2, 1)]),
         (vec![(19, 96), (5, 20)], 2, (5, 20))
@@ -896,6 +927,338 @@ fn m103_plans_with_large_numbers_hold_by_brute_force() {
     );
 }
 
+// ---- private locks ----
+
+/// One part with a lock of its lower task.
+const ONE_LOCK: [&str; 5] = [
+    "part p 10",
+    "task a 60 6 60",
+    "lock l 3",
+    "task b 30 2 30",
+    "end",
+];
+
+/// The kept list of a part, as brute force has it too.
+fn kept_by_both(file: &[u8], part: usize) -> Vec<(i64, i64)> {
+    same_candidates(file, part);
+    kept(file, part)
+}
+
+/// Which locks of each part are shared, as the literal reader has it too.
+fn shared_locks(file: &[u8]) -> Vec<Vec<String>> {
+    assert_eq!(same_reading(file), (0, 0), "{}", lossy(file));
+    let parts = literal::read(file).expect("a readable file");
+    let shared = |part: literal::Part| part.shared.into_iter().collect();
+    parts.into_iter().map(shared).collect()
+}
+
+#[test]
+fn p1_a_file_with_one_part_has_only_private_locks() {
+    let file = w(&ONE_LOCK);
+    assert_eq!(kept_by_both(&file, 1), [(2, 0)]);
+    let named = random::with_part_naming(&file, &["l"]);
+    assert_eq!(kept_by_both(&named, 1), [(3, 3)]);
+    let listing = w(&["load p 2 10", "share p 10 2 0 2 10", "ceiling l 1"]);
+    assert_eq!(lossy(&printed(&file)), lossy(&listing));
+    let slow = literal::plan(&file, PROGRAM_ROOM);
+    assert_eq!(slow, Ok(lossy(&listing)));
+}
+
+#[test]
+fn p2_parts_are_counted_and_not_tasks() {
+    let by_two_tasks = [
+        "part p 10",
+        "task a 60 6 60",
+        "lock l 3",
+        "task b 60 2 60",
+        "lock l 1",
+        "task c 30 2 30",
+    ];
+    let later = ["part q 10", "task a 60 1 60", "lock l 1", "end"];
+    let other = ["part q 10", "task a 60 1 60", "lock m 1", "end"];
+    let file = |end: &[&str]| w(&[&by_two_tasks[..], end].concat());
+    assert_eq!(shared_locks(&file(&["end"])), [[""; 0]]);
+    assert_eq!(shared_locks(&file(&other)), [[""; 0], []]);
+    // A later part's mention counts for the earlier part, and the other way round.
+    assert_eq!(shared_locks(&file(&later)), [["l"], ["l"]]);
+    assert_eq!(kept_by_both(&file(&["end"]), 1), [(3, 0)]);
+    assert_eq!(kept_by_both(&file(&other), 1), [(3, 0)]);
+    assert_eq!(kept_by_both(&file(&later), 1), [(3, 3)]);
+}
+
+#[test]
+fn p3_the_limit_of_lock_names_counts_private_ones() {
+    let with_locks = |count: usize| {
+        let mut lines = vec!["part p 10".to_string(), "task t 40 2 40".into()];
+        lines.extend((0..count).map(|k| format!("lock l{k} 1")));
+        lines.push("end".into());
+        w(&lines)
+    };
+    for named in [&[][..], &["l0"], &["l0", "l1", "l2", "l3"]] {
+        let file = |count| random::with_part_naming(&with_locks(count), named);
+        assert_eq!(same_reading(&file(8)), (0, 0));
+        assert_eq!(same_reading(&file(9)), (9, 11));
+    }
+}
+
+#[test]
+fn p4_a_private_lock_asks_no_permission() {
+    let file = w(&[
+        "part p 10",
+        "task a 40 9 40",
+        "lock x 9",
+        "task b 40 1 5",
+        "lock x 1",
+        "end",
+    ]);
+    let part = |file: &[u8]| literal::read(file).expect("a readable file").remove(0);
+    let setting = vec![("x".to_string(), 2)];
+    let (private, shared) = (part(&file), part(&random::with_part_naming(&file, &["x"])));
+    assert!(private.settings().iter().eq([&setting]));
+    assert!(shared.settings().iter().eq([&setting]));
+    assert_eq!(private.holding_time(&setting), Some(0));
+    assert_eq!(shared.holding_time(&setting), None);
+    // N8: there is no budget anyway.
+    assert_eq!(planned(&file), (10, 1));
+}
+
+#[test]
+fn p5_private_and_shared_locks_in_order_of_first_mention() {
+    let file = w(&[
+        "part p 50",
+        "task t 900 1 900",
+        "lock d 1",
+        "lock c 1",
+        "lock b 1",
+        "lock a 1",
+        "task u 900 1 900",
+        "lock b 1",
+        "task v 900 1 900",
+        "part q 50",
+        "task t 900 1 900",
+        "lock a 1",
+        "lock e 1",
+        "lock c 1",
+        "end",
+    ]);
+    assert_eq!(shared_locks(&file), [["a", "c"]; 2]);
+    let listing = lossy(&printed(&file)).replace('\t', " ");
+    let ceilings = listing.lines().filter(|line| line.starts_with("ceiling"));
+    assert!(
+        ceilings.eq([
+            "ceiling d 1",
+            "ceiling c 3",
+            "ceiling b 2",
+            "ceiling a 3",
+            "ceiling a 1",
+            "ceiling e 1",
+            "ceiling c 1",
+        ]),
+        "{listing}"
+    );
+}
+
+#[test]
+fn p6_example_b_rests_on_both_parts() {
+    assert_eq!(shared_locks(&w(&A)), [["buf"], ["buf"]]);
+    assert_eq!(kept_by_both(&w(&A), 2), [(3, 3)]);
+    let alone: Vec<&str> = A[3..].to_vec();
+    assert_eq!(kept_by_both(&w(&alone), 1), [(2, 0)]);
+}
+
+#[test]
+fn m100_example_f_with_both_locks_shared_or_one_or_none() {
+    let all = [(102, 26), (105, 24), (112, 20)];
+    assert_eq!(kept_by_both(&table_1(&["r1", "r2"]), 1), all);
+    assert_eq!(kept_by_both(&table_1(&["r2"]), 1), [(106, 8)]);
+    assert_eq!(kept_by_both(&table_1(&[]), 1), [(102, 0)]);
+    assert_eq!(kept_by_both(&table_1_alone(), 1), [(102, 0)]);
+}
+
+/// Made-up files for the laws: small ones, for brute force too.
+fn small_files(seed: u64, count: usize) -> impl Iterator<Item = Vec<u8>> {
+    let mut random = Random::new(seed);
+    (0..count).map(move |round| {
+        let sizes = [Sizes::two_parts(), Sizes::three_parts(), Sizes::one_part()];
+        let file = random::valid(&mut random, &sizes[round % 3]);
+        match round % 2 {
+            0 => random::named_elsewhere(&mut random, &file),
+            _ => file,
+        }
+    })
+}
+
+/// The file with another name for a lock in one part, parts counted from 0.
+fn with_lock_renamed(file: &[u8], part: usize, old: &str, new: &str) -> Vec<u8> {
+    let (old, new) = (format!("lock\t{old}\t"), format!("lock\t{new}\t"));
+    let mut parts = 0;
+    let text = lossy(file);
+    let line = |line: &str| {
+        parts += usize::from(line.starts_with("part\t"));
+        match line.strip_prefix(&old) {
+            Some(rest) if parts == part + 1 => format!("{new}{rest}\n"),
+            _ => format!("{line}\n"),
+        }
+    };
+    text.lines().map(line).collect::<String>().into_bytes()
+}
+
+/// Every part of the file with each of its locks, and whether that is shared.
+fn locks_of(file: &[u8]) -> Vec<(usize, String, bool)> {
+    let mut found = Vec::new();
+    for (index, part) in file::read(file)
+        .expect("a readable file")
+        .iter()
+        .enumerate()
+    {
+        for (lock, shared) in part.locks.iter().zip(part.shared) {
+            found.push((index, lossy(lock.bytes), shared));
+        }
+    }
+    found
+}
+
+#[test]
+fn m100_the_name_of_a_private_lock_makes_no_difference() {
+    let mut seen = 0;
+    let mut random = Random::new(11);
+    let full = (0..30).map(|_| random::valid(&mut random, &Sizes::full()));
+    let full = full.filter(|file| file.len() <= LONGEST_FILE);
+    for file in small_files(10, 900).chain(full) {
+        let listing = lossy(&printed(&file));
+        for (part, lock, _) in locks_of(&file).iter().filter(|(_, _, shared)| !shared) {
+            let renamed = printed(&with_lock_renamed(&file, *part, lock, "other"));
+            let back = lossy(&renamed).replace("\tother\t", &format!("\t{lock}\t"));
+            assert_eq!(back, listing, "{lock} of\n{}", lossy(&file));
+            seen += usize::from(listing.starts_with("load"));
+        }
+    }
+    assert!(seen > 400, "{seen} locks renamed");
+}
+
+/// The ceilings of the shared locks in each setting of a part, and its X.
+fn shared_settings(part: &literal::Part) -> Vec<(literal::Setting, Option<i64>)> {
+    let shared = |setting: literal::Setting| {
+        let x = part.holding_time(&setting);
+        let shared = |(lock, _): &(String, usize)| part.shared.contains(lock);
+        (setting.into_iter().filter(shared).collect(), x)
+    };
+    part.settings().into_iter().map(shared).collect()
+}
+
+#[test]
+fn m100_private_locks_do_not_enter_x() {
+    let mut random = Random::new(13);
+    let (mut changed, mut budgets) = (0, 0);
+    for file in small_files(12, 900) {
+        for part in literal::read(&file).expect("a readable file") {
+            let private = part.locks();
+            let private = private.iter().find(|lock| !part.shared.contains(*lock));
+            // A lock of its own, if it has none.
+            let lock = private.cloned().unwrap_or("own".to_string());
+            let mut other = part.clone();
+            let task = random.index(other.tasks.len());
+            let task = &mut other.tasks[task];
+            task.locks.retain(|(name, _)| *name != lock);
+            let held = random.within(1..=task.execution as u64);
+            task.locks.push((lock, held as i64));
+            assert_eq!(
+                shared_settings(&other),
+                shared_settings(&part),
+                "{}",
+                lossy(&file)
+            );
+            changed += 1;
+            budgets += usize::from(other.kept() != part.kept());
+        }
+    }
+    assert!(
+        changed > 1000 && budgets > 50,
+        "{changed} changed, {budgets} with other lists"
+    );
+}
+
+#[test]
+fn m100_with_all_locks_shared_answers_are_those_of_before() {
+    let mut random = Random::new(14);
+    let mut longer = 0;
+    for _ in 0..600 {
+        let alone = random::valid(&mut random, &Sizes::one_part());
+        let file = random::with_part_naming(&alone, &random::lock_names(&alone));
+        // Every lock has a holding time and any ceiling from its lowest up.
+        let mut before = literal::read(&alone).expect("a readable file").remove(0);
+        before.shared = before.locks().into_iter().collect();
+        let pairs = local::candidates(&file::read(&file).expect("a readable file")[0]);
+        assert_eq!(signed(&pairs), before.kept(), "{}", lossy(&file));
+        longer += usize::from(pairs.len() > 1);
+    }
+    assert!(longer > 50, "{longer} lists longer than one pair");
+}
+
+#[test]
+fn m100_a_list_depends_on_the_part_and_on_its_shared_locks() {
+    let mut mixed = 0;
+    for file in small_files(15, 900) {
+        let text = lossy(&file);
+        let parts: Vec<&str> = text.trim_end_matches("end\n").split("part\t").collect();
+        for (number, shared) in (1..).zip(shared_locks(&file)) {
+            let alone = format!("part\t{}end\n", parts[number]).into_bytes();
+            let file_of_two = random::with_part_naming(&alone, &shared);
+            let pairs = |file: &[u8], part| candidates(file, part).map_err(|no| no.number);
+            // A part of that name may be there.
+            if parts[number].starts_with("o\t") {
+                continue;
+            }
+            assert_eq!(
+                pairs(&file_of_two, 1),
+                pairs(&file, number),
+                "part {number} of\n{text}"
+            );
+            let locks = random::lock_names(&alone).len();
+            mixed += usize::from(!shared.is_empty() && shared.len() < locks);
+        }
+    }
+    assert!(mixed > 100, "{mixed} parts with locks of both kinds");
+}
+
+/// The load of the plan, if there is one.
+fn load_of(file: &[u8]) -> Option<(u64, u64)> {
+    let listing = lossy(&plan(file, PROGRAM_ROOM).ok()?);
+    let fields: Vec<&str> = listing.lines().next()?.split('\t').collect();
+    Some((fields[2].parse().ok()?, fields[3].parse().ok()?))
+}
+
+#[test]
+fn m100_one_more_private_lock_never_makes_a_load_greater() {
+    let (mut same, mut less, mut newly) = (0, 0, 0);
+    let mut random = Random::new(17);
+    let full = (0..60).map(|_| random::valid(&mut random, &Sizes::full()));
+    let full = full.filter(|file| file.len() <= LONGEST_FILE);
+    for file in small_files(16, 3000).chain(full) {
+        let load = load_of(&file);
+        for (part, lock, _) in locks_of(&file).iter().filter(|(_, _, shared)| *shared) {
+            let other = with_lock_renamed(&file, *part, lock, "other");
+            match (load, load_of(&other)) {
+                (Some((l, t)), Some((l2, t2))) => {
+                    assert!(l2 * t <= l * t2, "{lock} of\n{}", lossy(&file));
+                    *(if l2 * t < l * t2 {
+                        &mut less
+                    } else {
+                        &mut same
+                    }) += 1;
+                }
+                (Some(_), None) => panic!("{lock} of\n{}", lossy(&file)),
+                (None, Some(_)) => newly += 1,
+                (None, None) => {}
+            }
+        }
+    }
+    assert!(
+        same > 100 && less > 500 && newly > 50,
+        "{same} the same, {less} less, {newly} newly planned"
+    );
+}
+
 // ---- readings of the numbers ----
 
 #[test]
@@ -908,7 +1271,8 @@ fn n1_two_settings_with_the_same_pair() {
         "task b 60 1 60",
         "end",
     ];
-    assert_eq!(kept(&w(&lines), 1), [(1, 2)]);
+    let file = random::with_part_naming(&w(&lines), &["l", "m"]);
+    assert_eq!(kept(&file, 1), [(1, 2)]);
 }
 
 #[test]
@@ -974,6 +1338,7 @@ fn n2_n7_n8_permission_and_least_budgets_do_not_show() {
     let mut random = Random::new(7);
     for _ in 0..200 {
         let file = random::valid(&mut random, &Sizes::one_part());
+        let file = random::named_elsewhere(&mut random, &file);
         let part = literal::read(&file).expect("a readable file").remove(0);
         // N8: a setting with a passing budget is permitted.
         for setting in part.settings() {
@@ -1017,9 +1382,8 @@ fn a3_b11_every_setting_of_table_1() {
         (5, 6, 24, 106, [0, 8, 10, 10, 20, 8]),
         (6, 6, 20, 112, [0, 8, 10, 10, 20, 20]),
     ];
-    let part = literal::read(&table_1())
-        .expect("a readable file")
-        .remove(0);
+    let file = table_1(&["r1", "r2"]);
+    let part = literal::read(&file).expect("a readable file").remove(0);
     assert_eq!(part.settings().len(), table.len());
     let least = |r1: usize, r2: usize| {
         let setting = vec![("r2".to_owned(), r2), ("r1".to_owned(), r1)];

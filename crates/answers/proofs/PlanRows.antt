@@ -33,8 +33,7 @@ use Rattle.selection.specs.Selection.{choices}
 use Rattle.selection.specs.Questions.{choiceQuestions}
 use Rattle.selection.proofs.Selection.{leastLoaded-member, leastLoaded-least, some-passes}
 use Rattle.selection.proofs.Greatest.{member-some, leastLoaded-greatest}
-use Rattle.plan_file.specs.Above.{noPart}
-use Rattle.plan_file.specs.Numbers.{PlanPart, planPart, partsOf, partAt}
+use Rattle.plan_file.specs.Numbers.{PlanPart, partsOf, noPlanPart, partAt}
 use Rattle.listing.specs.Listing.{shareUnder}
 use Rattle.answers.specs.Parts.{keptRows, shareOf, sharesOf}
 use Rattle.answers.specs.Plan.{Plan, partitions, offered, leastRows, chosenRows, planWith, chosenPlan, planFile, planText}
@@ -75,12 +74,12 @@ module _ (ps : List PlanPart) where
   text = planText (record { parts = ps; rows = leastRows vs })
 
   -- question 10
-  pub empty-at : (i : ℕ) → isEmpty (nthOr (keptRows (planPart noPart .numbers)) i (offered vs)) ≡ isEmpty (keptRows (partAt ps i .numbers))
-  empty-at i = ap isEmpty (nth-of-map keptRows (planPart noPart .numbers) i vs ∙ ap keptRows (nth-of-map (λ (p : PlanPart). p .numbers) (planPart noPart) i ps))
+  pub empty-at : (i : ℕ) → isEmpty (nthOr (keptRows (noPlanPart .numbers)) i (offered vs)) ≡ isEmpty (keptRows (partAt ps i .numbers))
+  empty-at i = ap isEmpty (nth-of-map keptRows (noPlanPart .numbers) i vs ∙ ap keptRows (nth-of-map (λ (p : PlanPart). p .numbers) noPlanPart i ps))
 
   pub each-chosen : everyKept vs ≡ true → (i : ℕ) → 1 ≤ i → i ≤ length ps → (r : Row) × Chosen (partAt ps i .numbers) r
   each-chosen e i a b =
-      some-kept (partAt ps i .numbers) (not-true _ (every-member _ (offered vs) e (Memᴰ·map keptRows (Memᴰ·map (λ (p : PlanPart). p .numbers) (nth-member (planPart noPart) i ps a b)))))
+      some-kept (partAt ps i .numbers) (not-true _ (every-member _ (offered vs) e (Memᴰ·map keptRows (Memᴰ·map (λ (p : PlanPart). p .numbers) (nth-member noPlanPart i ps a b)))))
 
   pub first-empty : everyKept vs ≡ false → FirstAt isEmpty (offered vs) (firstOf isEmpty (offered vs))
   first-empty e = first-at isEmpty (offered vs) (go (firstOf isEmpty (offered vs)) refl)
@@ -92,7 +91,7 @@ module _ (ps : List PlanPart) where
       go (suc j) z = omega arith
 
   pub none-chosen : (j : ℕ) → FirstAt isEmpty (offered vs) j → (r : Row) → Chosen (partAt ps j .numbers) r → ⊥
-  none-chosen j f = none-kept (partAt ps j .numbers) (sym (empty-at j) ∙ f .passes (keptRows (planPart noPart .numbers)))
+  none-chosen j f = none-kept (partAt ps j .numbers) (sym (empty-at j) ∙ f .passes (keptRows (noPlanPart .numbers)))
 
   -- question 11
   pub no-passing-choice : some passesSystem (keptChoices vs) ≡ false → (rs : List Row) → PassingChoice ps rs → ⊥

@@ -25,10 +25,9 @@ use Rattle.task_set.specs.Code.Fine.{blankTask}
 use Rattle.task_set.specs.Code.ByColumn.{timesOf}
 use Rattle.task_set.specs.Code.ByLock.{blockingBy, settingOf}
 use Rattle.task_set.proofs.Places.{tasks-length, held-at}
-use Rattle.task_set.proofs.ByLock.{lowest-most}
 use Rattle.task_set.proofs.BlockingAt.{setting-at}
 use Rattle.holding.specs.Holding.{holdingTimeOf}
-use Rattle.holding.proofs.Holding.{Ranged, inRange-paper}
+use Rattle.holding.proofs.Holding.{Ranged, inRange-paper, lowest≤highest}
 use Rattle.budget.specs.Budget.{passes, leastBudget}
 use Rattle.budget.proofs.Passing.{budget-iff, passes-more}
 use Rattle.candidates.specs.declared.Pair.{Pair}
@@ -63,7 +62,7 @@ module _ (p : Part) (c : Columns) (k : Locks) (table : List ℕ) (ready : Prepar
   lowest-is (suc j) a b = setting-at (k .lowest) j ∙ ready .locks .lowest j (omega arith)
 
   lowest-ranged : Ranged (partitionOf p) lowest
-  lowest-ranged l a b = (omega (arith, lowest-is l a b), omega (arith, lowest-is l a b, lowest-most p (ready .fine) l a b, tasks-length p (ready .fine)))
+  lowest-ranged l a b = (omega (arith, lowest-is l a b), omega (arith, lowest-is l a b, lowest≤highest (partitionOf p) l))
 
   -- the task at the place j is in range
   apart : (j : ℕ) → j < length (tasksOf p) → 1 ≤ getD (tasksOf p) j blankTask .separation

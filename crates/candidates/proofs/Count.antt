@@ -7,13 +7,13 @@
 use Prim.Native.Nat.{ℕ, _+_, _-_, _*_, _≤_, _<_}
 use native.Mathlib.Nat.{le-of-eq, le-trans, eq-or-lt-of-le, mul-le-mul-right}
 use native.Mathlib.Omega.{arith}
-use mathlib.Core.Path.{_≡_, refl, subst}
+use mathlib.Core.Path.{_≡_, refl, ap, subst}
 use mathlib.Core.Logic.{_⊎_, inl, inr, ⊎-elim}
 use mathlib.Core.List.{List, [], _∷_, map, List·Memᴰ, List·Memᴰ·head, List·Memᴰ·tail, Memᴰ·of-map}
 use lib.ListN.{length, length-map}
+use Rattle.least.specs.declared.Least.the-variants.{At}
 use Rattle.least.specs.Lists.{sum, range}
 use Rattle.least.proofs.Round.{product}
-use Rattle.least.proofs.Search.{least-unique}
 use Rattle.least.proofs.Lists.{range-iff}
 use Rattle.least.proofs.Pairwise.{Pairwise, pairwise-map}
 use Rattle.least.proofs.Sums.{sum-rises, sum-most, length-range}
@@ -22,9 +22,8 @@ use Rattle.task_set.specs.declared.Task.{Task}
 use Rattle.task_set.specs.Tasks.{lowestCeiling}
 use Rattle.task_set.specs.Partition.{Partition}
 use Rattle.task_set.specs.Blocking.{Setting}
-use Rattle.holding.specs.Holding.{held, holdingTimeOf}
-use Rattle.holding.specs.Code.Holding.{HoldingTime}
-use Rattle.holding.proofs.Holding.{Ranged, inRange-paper, holding-paper, holdingTime-paper}
+use Rattle.holding.specs.Holding.{holdingTimeOf}
+use Rattle.holding.proofs.Holding.{Ranged, inRange-paper, highest-most, countedTime, holdingTime-paper}
 use Rattle.candidates.specs.declared.Pair.{Pair}
 use Rattle.candidates.specs.Candidates.{keptList, shownCeiling}
 use Rattle.candidates.specs.Statement.{Permitted, Candidate}
@@ -47,7 +46,7 @@ unfolding raised
 raised-most v σ used in-range = le-trans most (mul-le-mul-right (length (v .tasks) - 1) (omega (arith, length-range 1 (v .locks))))
   where
     each : (l : ℕ) → List·Memᴰ l (range 1 (v .locks)) → above (v .tasks) σ l ≤ length (v .tasks) - 1
-    each l k = let r = range-iff 1 (v .locks) l .0 k in omega (arith, used l (r .0) (r .1), in-range l (r .0) (r .1) .1)
+    each l k = let r = range-iff 1 (v .locks) l .0 k in omega (arith, used l (r .0) (r .1), in-range l (r .0) (r .1) .1, highest-most v l)
 
     most : sum (map (above (v .tasks) σ) (range 1 (v .locks))) ≤ length (range 1 (v .locks)) * (length (v .tasks) - 1)
     most = sum-most (above (v .tasks) σ) (length (v .tasks) - 1) (range 1 (v .locks)) each
@@ -58,23 +57,24 @@ module _ (v : Partition) (x y : ℕ) (σ : Setting) (h : y ≤ x) (ok : Permitte
   shown-beside = shown-under v x σ ok (le-trans u h)
 
   -- the lock that is held longest under the ceilings shown for x has a lower one there
-  lower-there : (l : ℕ) → 1 ≤ l → l ≤ v .locks → HoldingTime (v .tasks) l (shownCeiling v x l) (holdingTimeOf v (shownCeiling v x)) → shownCeiling v x l < σ l
+  lower-there : (l : ℕ) → 1 ≤ l → l ≤ v .locks → countedTime v l (shownCeiling v x l) ≡ At (holdingTimeOf v (shownCeiling v x)) → shownCeiling v x l < σ l
   lower-there l a b t = go (eq-or-lt-of-le (shown-beside l a b .1))
     where
       go : (shownCeiling v x l ≡ σ l) ⊎ (shownCeiling v x l < σ l) → shownCeiling v x l < σ l
       go (inl e) =
           let k = permitted-within v y σ ok u l a b in
-          absurd (omega (arith, k .most, least-unique (held (v .tasks) l (σ l)) _ (k .time) (subst (λ (r : ℕ). HoldingTime (v .tasks) l r (holdingTimeOf v (shownCeiling v x))) e t) (holding-paper (v .tasks) l (σ l) (k .time) .0 (k .is) .0)))
+          let same : holdingTimeOf v (shownCeiling v x) ≡ k .time = cc (t, ap (countedTime v l) e, k .is) in
+          absurd (omega (arith, k .most))
       go (inr q) = q
 
   pub raised-rises : raised v (shownCeiling v x) < raised v σ
   unfolding raised
-  raised-rises = ⊎-elim (λ z. absurd (omega (arith, z .1))) rises (holdingTime-paper v (shownCeiling v x) (shown-permitted v x σ ok (le-trans u h) .held) .one)
+  raised-rises = ⊎-elim (λ z. absurd (omega (arith, z))) rises (holdingTime-paper v (shownCeiling v x) (shown-permitted v x σ ok (le-trans u h) .held) .one)
     where
       each : (l : ℕ) → List·Memᴰ l (range 1 (v .locks)) → above (v .tasks) (shownCeiling v x) l ≤ above (v .tasks) σ l
       each l k = let r = range-iff 1 (v .locks) l .0 k in omega (arith, shown-beside l (r .0) (r .1) .1)
 
-      rises : (l : ℕ) × (1 ≤ l) × (l ≤ v .locks) × HoldingTime (v .tasks) l (shownCeiling v x l) (holdingTimeOf v (shownCeiling v x)) → sum (map (above (v .tasks) (shownCeiling v x)) (range 1 (v .locks))) < sum (map (above (v .tasks) σ) (range 1 (v .locks)))
+      rises : (l : ℕ) × (1 ≤ l) × (l ≤ v .locks) × (countedTime v l (shownCeiling v x l) ≡ At (holdingTimeOf v (shownCeiling v x))) → sum (map (above (v .tasks) (shownCeiling v x)) (range 1 (v .locks))) < sum (map (above (v .tasks) σ) (range 1 (v .locks)))
       rises (l, a, b, t) =
           sum-rises (above (v .tasks) (shownCeiling v x)) (above (v .tasks) σ) (range 1 (v .locks)) each l (range-iff 1 (v .locks) l .1 (a, b)) (omega (arith, shown-beside l a b .0 .low, lower-there l a b t))
 

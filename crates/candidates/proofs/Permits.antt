@@ -121,4 +121,4 @@ module _ (v : Partition) (σ : Setting) (Q : ℕ)
           passes-free l (pk .0) (pj .0) from upto (pk .1) (pj .1) (sym (ap (uses l) (pk .2)) ∙ s .2) (sym (ap (uses l) (pj .2)) ∙ uu) (sym (ap (heldFor l) (pj .2)) ∙ sym e) (sym (ap (λ (x : Task). x .deadline) (pk .2)) ∙ s .3)
 
   pub passing-permits : Permitted v σ
-  passing-permits = record { ranged = inRange-paper v σ .1 ranged; held = permitted-paper v σ .1 lock-free }
+  passing-permits = record { ranged = inRange-paper v σ .1 ranged; held = permitted-paper v σ .1 (λ l a b s. lock-free l a b) }

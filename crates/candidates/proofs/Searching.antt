@@ -25,7 +25,7 @@ use Rattle.raising.specs.Code.Raising.{ceilingAt, FineLocks, RaisedIs}
 use Rattle.candidates.specs.declared.Budgeted.{Budgeted}
 use Rattle.candidates.specs.Candidates.{pair, keptList, keptAnswer}
 use Rattle.candidates.specs.Code.Candidates.{keptOf}
-use Rattle.candidates.specs.Code.KeptSearch.{budgetStep, BudgetIs, pairsOf, sumAt, LighterIs}
+use Rattle.candidates.specs.Code.KeptSearch.{FirstTimes, budgetStep, BudgetIs, pairsOf, sumAt, LighterIs}
 use Rattle.candidates.proofs.Walk.{lighter, pushed, WalkedFrom, Walked, walk-zero}
 use Rattle.candidates.proofs.Pairs.{pairs-none, pairs-length, pairs-each, lighter-pairs, pairs-pushed}
 use Rattle.candidates.proofs.Turn.{SearchAt, search-start, walked-start, walked-few, candidate-small, raise-missed, raised-most, holding-most, budget-missed, budget-most, turn-push, turn-next, search-next}
@@ -64,9 +64,9 @@ module _ (p : Part) (c : Columns) (k : Locks) (table : List ℕ) (ready : Prepar
   pub blockings-fine : (ceilings : List ℕ) (i : ℕ) → i < p .count → blockingBy table ceilings (p .locks) i ≤ numberLimit
   blockings-fine ceilings i h = blocking-small p (ready .fine) i h table ceilings (ready .below)
 
-  pub searching-start : (x : ℕ) → numberLimit < x → Searching p c (k .lowest) (replicate 8 x) (replicate 16 x) 1 (replicate keptLimit 0) (replicate keptLimit 0) 0 numberLimit
-  searching-start x h = record {
-    search = search-start p (ready .fine) c k (ready .locks) (ready .period-some) x h;
+  pub searching-start : (times : List ℕ) → FirstTimes (p .shared) times → (x : ℕ) → numberLimit < x → Searching p c (k .lowest) times (replicate 16 x) 1 (replicate keptLimit 0) (replicate keptLimit 0) 0 numberLimit
+  searching-start times first x h = record {
+    search = search-start p (ready .fine) c k (ready .locks) (ready .period-some) times first x h;
     walked = subst (Walked (partitionOf p) numberLimit) (sym (pairs-none (replicate keptLimit 0) (replicate keptLimit 0))) (walked-start p (ready .fine));
     room = length-replicate {A = ℕ} keptLimit 0;
     rooms = length-replicate {A = ℕ} keptLimit 0;

@@ -1,5 +1,5 @@
 -- The ceilings of all locks at x: they make the setting that is shown for x, with its X.
---   AllShown v x ceilings times == each lock has the ceiling that is shown for it at x, and its holding time
+--   AllShown v x ceilings times == each lock has the ceiling that is shown for it at x, and the time that counts there
 --   AllKnown v y ceilings times == that of a greater x, or nothing is known yet
 -- Assumes nothing.
 use Prim.Native.Nat.{ℕ, zero, suc, _-_, _≤_, _<_}
@@ -30,7 +30,8 @@ use Rattle.task_set.proofs.ByColumn.{columns-demand}
 use Rattle.task_set.proofs.ByLock.{deadline-most}
 use Rattle.task_set.proofs.BlockingAt.{setting-at}
 use Rattle.holding.specs.declared.Ceiling.the-variants.{Held}
-use Rattle.holding.specs.Holding.{holdingOf, holdingTimeOf}
+use Rattle.holding.specs.Holding.{holdingTimeOf}
+use Rattle.holding.proofs.Holding.{countedTime, holdingTime-counted}
 use Rattle.raising.specs.Code.Raising.{nextCeiling, ceilingAt, heldTime}
 use Rattle.candidates.specs.Candidates.{shownCeiling}
 use Rattle.candidates.specs.Statement.{Permitted}
@@ -74,16 +75,17 @@ module _ (v : Partition) (x : ℕ) (ceilings times : List ℕ) (all : AllShown v
   setting-agrees zero a b = absurd (omega arith)
   setting-agrees (suc j) a b = setting-at ceilings j ∙ sym (ceiling-is j (omega arith))
 
-  number-at : (j : ℕ) → j < v .locks → numberOr0 (holdingOf (v .tasks) (suc j) (shownCeiling v x (suc j))) ≡ heldTime (shownAt v x (suc j))
+  number-at : (j : ℕ) → j < v .locks → numberOr0 (countedTime v (suc j) (shownCeiling v x (suc j))) ≡ heldTime (shownAt v x (suc j))
   unfolding numberOr0
-  number-at j h = ap (λ (r : ℕ). numberOr0 (holdingOf (v .tasks) (suc j) r)) (ceiling-is j h) ∙ ap numberOr0 (shows j h .time) ∙ sym (ap heldTime (all j h))
+  number-at j h = ap (λ (r : ℕ). numberOr0 (countedTime v (suc j) r)) (ceiling-is j h) ∙ ap numberOr0 (shows j h .time) ∙ sym (ap heldTime (all j h))
 
   pub holding-greatest : holdingTimeOf v (shownCeiling v x) ≡ greatest (map (λ j. heldTime (shownAt v x (suc j))) (countFrom 0 (v .locks)))
-  unfolding holdingTimeOf range
+  unfolding range
   holding-greatest =
       let e : suc (v .locks) - 1 ≡ (v .locks) = omega arith in
-      ap greatest
-      (ap (λ (n : ℕ). map (λ l. numberOr0 (holdingOf (v .tasks) l (shownCeiling v x l))) (countFrom 1 n)) e
-      ∙ ap (map (λ l. numberOr0 (holdingOf (v .tasks) l (shownCeiling v x l)))) (count-suc (v .locks) 0)
-      ∙ map-map (λ l. numberOr0 (holdingOf (v .tasks) l (shownCeiling v x l))) suc (countFrom 0 (v .locks))
-      ∙ map-same (λ j. numberOr0 (holdingOf (v .tasks) (suc j) (shownCeiling v x (suc j)))) (λ j. heldTime (shownAt v x (suc j))) (countFrom 0 (v .locks)) (λ j q. number-at j (omega (arith, count-from (v .locks) 0 j q .1))))
+      holdingTime-counted v (shownCeiling v x)
+      ∙ ap greatest
+      (ap (λ (n : ℕ). map (λ l. numberOr0 (countedTime v l (shownCeiling v x l))) (countFrom 1 n)) e
+      ∙ ap (map (λ l. numberOr0 (countedTime v l (shownCeiling v x l)))) (count-suc (v .locks) 0)
+      ∙ map-map (λ l. numberOr0 (countedTime v l (shownCeiling v x l))) suc (countFrom 0 (v .locks))
+      ∙ map-same (λ j. numberOr0 (countedTime v (suc j) (shownCeiling v x (suc j)))) (λ j. heldTime (shownAt v x (suc j))) (countFrom 0 (v .locks)) (λ j q. number-at j (omega (arith, count-from (v .locks) 0 j q .1))))

@@ -1,12 +1,12 @@
 -- The ceilings shown for x: the lowest that are held for at most x. They are permitted wherever any setting has X ≤ x, and then no such setting passes with a smaller budget.
---   Within v x l r     == r is a ceiling of lock l that is in range, and its w is permitted and at most x
+--   Within v x l r     == r is a ceiling of lock l that is in range, and the time that counts there is permitted and at most x
 --   lowestWithin v x l == the search for the lowest such r
 -- Assumes nothing.
 use Prim.Native.Nat.{ℕ, suc, _-_, _≤_}
 use native.Mathlib.Nat.{le-refl, le-trans, le-of-eq}
 use native.Mathlib.Omega.{arith}
-use mathlib.Core.Path.{_≡_, refl, ap, _∙_}
-use mathlib.Core.Bool.{true, false≢true}
+use mathlib.Core.Path.{_≡_, refl, sym, ap, ap₂, _∙_, fun-ext}
+use mathlib.Core.Bool.{Bool, true, false, false≢true}
 use mathlib.Core.Logic.{⊎-elim, _↔_}
 use mathlib.Core.List.{List, [], _∷_, map, List·Memᴰ, List·Memᴰ·head}
 use lib.ListN.{length}
@@ -15,15 +15,14 @@ use Rattle.least.specs.declared.Least.{Least}
 use Rattle.least.specs.declared.Least.the-variants.{At, Nothing}
 use Rattle.least.specs.Search.{leastFrom, numberOr0}
 use Rattle.least.specs.Lists.{smallest, those}
-use Rattle.least.proofs.Search.{least-found, least-upto, least-unique}
+use Rattle.least.proofs.Search.{least-found, least-upto}
 use Rattle.least.proofs.Lists.{those-member, smallest-le}
 use Rattle.task_set.specs.declared.Task.{Task}
 use Rattle.task_set.specs.Tasks.{uses, lowestCeiling, smallestDeadline}
-use Rattle.task_set.specs.Partition.{Partition}
+use Rattle.task_set.specs.Partition.{Partition, isShared}
 use Rattle.task_set.specs.Blocking.{Setting}
-use Rattle.holding.specs.Holding.{held, holdingOf, within, holdingTimeOf}
-use Rattle.holding.specs.Code.Holding.{HoldingTime}
-use Rattle.holding.proofs.Holding.{inRange-paper, holding-paper, permitted-paper, holdingTime-paper}
+use Rattle.holding.specs.Holding.{holdingOf, within, highestCeiling, holdingTimeOf}
+use Rattle.holding.proofs.Holding.{highest-shared, highest-private, inRange-paper, holding-paper, countedTime, counted-shared, counted-private, permitted-times, holdingTime-paper}
 use Rattle.holding.proofs.Falling.{holdingTime-falls}
 use Rattle.budget.specs.Budget.{passes, leastBudget}
 use Rattle.budget.proofs.Passing.{passes-more, budget-iff}
@@ -33,9 +32,9 @@ use Rattle.candidates.specs.Statement.{Permitted, Candidate, IsKept}
 
 pub record Within (v : Partition) (x l r : ℕ) : Type 0 where
   pub low : lowestCeiling l (v .tasks) ≤ r
-  pub high : r ≤ length (v .tasks)
+  pub high : r ≤ highestCeiling v l
   pub time : ℕ
-  pub is : holdingOf (v .tasks) l r ≡ At time
+  pub is : countedTime v l r ≡ At time
   pub most : time ≤ x
 
 -- each lock's ceiling is one of these
@@ -51,33 +50,41 @@ module _ (v : Partition) (x : ℕ) (σ : Setting) where
   pub permitted-within : Permitted v σ → holdingTimeOf v σ ≤ x → AllWithin v x σ
   permitted-within ok u l a b =
       let r = inRange-paper v σ .0 (ok .ranged) l a b in
-      let t = permitted-paper v σ .0 (ok .held) l a b in
+      let t = permitted-times v σ .0 (ok .held) l a b in
       record {
         low = r .0;
         high = r .1;
         time = t .0;
-        is = holding-paper (v .tasks) l (σ l) (t .0) .1 (t .1, t .2);
+        is = t .1;
         most = le-trans (holdingTime-paper v σ (ok .held) .each l (t .0) a b (t .1)) u;
       }
 
   pub within-permitted : AllWithin v x σ → Permitted v σ
   within-permitted all = record {
     ranged = inRange-paper v σ .1 (λ l a b. (all l a b .low, all l a b .high));
-    held = permitted-paper v σ .1 (λ l a b. let t = all l a b in let p = holding-paper (v .tasks) l (σ l) (t .time) .0 (t .is) in (t .time, p .0, p .1));
+    held = permitted-times v σ .1 (λ l a b. let t = all l a b in (t .time, t .is));
   }
 
   pub within-holding : AllWithin v x σ → holdingTimeOf v σ ≤ x
   within-holding all =
-      ⊎-elim (λ z. omega (arith, z .1)) (λ h. reached (h .0) (h .3) (all (h .0) (h .1) (h .2))) (holdingTime-paper v σ (within-permitted all .held) .one)
+      ⊎-elim (λ z. omega (arith, z)) (λ h. reached (h .0) (h .3) (all (h .0) (h .1) (h .2))) (holdingTime-paper v σ (within-permitted all .held) .one)
     where
-      reached : (l : ℕ) → HoldingTime (v .tasks) l (σ l) (holdingTimeOf v σ) → Within v x l (σ l) → holdingTimeOf v σ ≤ x
-      reached l h t = omega (arith, least-unique (held (v .tasks) l (σ l)) (holdingTimeOf v σ) (t .time) h (holding-paper (v .tasks) l (σ l) (t .time) .0 (t .is) .0))
+      reached : (l : ℕ) → countedTime v l (σ l) ≡ At (holdingTimeOf v σ) → Within v x l (σ l) → holdingTimeOf v σ ≤ x
+      reached l h t = let e : holdingTimeOf v σ ≡ t .time = cc (h, t .is) in omega (arith, t .most)
 
 -- a deadline that no task exceeds is at least every X
 smallest-most : (x : ℕ) (ks : List Task) → ((k : Task) → List·Memᴰ k ks → k .deadline ≤ x) → smallest (map (λ k. k .deadline) ks) ≤ x
 unfolding smallest
 smallest-most x [] h = omega arith
 smallest-most x (k ∷ ks) h = le-trans (smallest-le (k .deadline ∷ map (λ k. k .deadline) ks) (List·Memᴰ·head refl)) (h k (List·Memᴰ·head refl))
+
+-- a time that counts is at most the smallest deadline among the users
+pub counted-most : (v : Partition) (l r w : ℕ) → countedTime v l r ≡ At w → w ≤ smallestDeadline l (v .tasks)
+counted-most v l r w e = go (isShared v l) refl
+  where
+    go : (s : Bool) → isShared v l ≡ s → w ≤ smallestDeadline l (v .tasks)
+    go true s = holding-paper (v .tasks) l r w .0 (sym (counted-shared v l r s) ∙ e) .1
+    go false s = let z : 0 ≡ w = cc (counted-private v l r s, e) in omega arith
 
 pub deadlines-holding : (v : Partition) (x : ℕ) → ((k : Task) → List·Memᴰ k (v .tasks) → k .deadline ≤ x) → (σ : Setting) → Permitted v σ → holdingTimeOf v σ ≤ x
 unfolding smallestDeadline
@@ -87,27 +94,41 @@ deadlines-holding v x most σ ok = within-holding v x σ all
     all l a b =
         let k = permitted-within v (holdingTimeOf v σ) σ ok (le-refl _) l a b in
         let d = smallest-most x (those (uses l) (v .tasks)) (λ t j. most t (those-member (uses l) (v .tasks) j .0)) in
-        record { low = k .low; high = k .high; time = k .time; is = k .is; most = le-trans (holding-paper (v .tasks) l (σ l) (k .time) .0 (k .is) .1) d }
+        record { low = k .low; high = k .high; time = k .time; is = k .is; most = le-trans (counted-most v l (σ l) (k .time) (k .is)) d }
 
 -- the search for the ceiling of one lock
 module _ (v : Partition) (x l : ℕ) where
   abbrev pub lowestWithin : Least
-  lowestWithin = leastFrom (λ r. within x (holdingOf (v .tasks) l r)) (lowestCeiling l (v .tasks)) (suc (length (v .tasks)) - lowestCeiling l (v .tasks))
+  lowestWithin = leastFrom (λ r. within x (countedTime v l r)) (lowestCeiling l (v .tasks)) (suc (highestCeiling v l) - lowestCeiling l (v .tasks))
+
+  -- of a shared lock it is the search of the definition
+  pub within-shared : isShared v l ≡ true → lowestWithin ≡ leastFrom (λ r. within x (holdingOf (v .tasks) l r)) (lowestCeiling l (v .tasks)) (suc (length (v .tasks)) - lowestCeiling l (v .tasks))
+  within-shared s =
+      ap₂ (λ (time : ℕ → Least) (high : ℕ). leastFrom (λ r. within x (time r)) (lowestCeiling l (v .tasks)) (suc high - lowestCeiling l (v .tasks))) (fun-ext (λ r. counted-shared v l r s)) (highest-shared v l s)
+
+  -- a private lock is listed with its lowest ceiling
+  pub shown-private : isShared v l ≡ false → shownCeiling v x l ≡ lowestCeiling l (v .tasks)
+  unfolding shownCeiling
+  shown-private s = simp s
 
   pub found-shown : (r : ℕ) → lowestWithin ≡ At r → shownCeiling v x l ≡ r
   unfolding shownCeiling numberOr0
-  found-shown r e = ap numberOr0 e
+  found-shown r e = go (isShared v l) refl
+    where
+      go : (s : Bool) → isShared v l ≡ s → shownCeiling v x l ≡ r
+      go true s = simp s (ap numberOr0 (sym (within-shared s) ∙ e))
+      go false s = let f = least-found _ _ _ r e in omega (arith, shown-private s, f .from, f .below, highest-private v l s)
 
   pub found-within : (r : ℕ) → lowestWithin ≡ At r → Within v x l (shownCeiling v x l)
   found-within r e =
       let f = least-found _ _ _ r e in
-      let h = within-iff x (holdingOf (v .tasks) l r) .0 (f .passes) in
+      let h = within-iff x (countedTime v l r) .0 (f .passes) in
       rw (found-shown r e) (record { low = f .from; high = omega (arith, f .from, f .below); time = h .0; is = h .1; most = h .2 })
 
   pub found-first : (r : ℕ) → Within v x l r → (s : ℕ) × (lowestWithin ≡ At s) × (s ≤ r)
   found-first r k =
-      let t = within-iff x (holdingOf (v .tasks) l r) .1 (k .time, k .is, k .most) in
-      let f = least-upto (λ s. within x (holdingOf (v .tasks) l s)) (suc (length (v .tasks)) - lowestCeiling l (v .tasks)) (lowestCeiling l (v .tasks)) r (k .low) (omega (arith, k .low, k .high)) t in
+      let t = within-iff x (countedTime v l r) .1 (k .time, k .is, k .most) in
+      let f = least-upto (λ s. within x (countedTime v l s)) (suc (highestCeiling v l) - lowestCeiling l (v .tasks)) (lowestCeiling l (v .tasks)) r (k .low) (omega (arith, k .low, k .high)) t in
       (f .0, f .2, f .3)
 
   pub shown-least : (r : ℕ) → Within v x l r → Within v x l (shownCeiling v x l) × (shownCeiling v x l ≤ r)

@@ -4,7 +4,7 @@
 use Prim.Native.Nat.{ℕ, zero, suc, _-_, _≤_, _<_}
 use native.Mathlib.Nat.{le-trans}
 use native.Mathlib.Omega.{arith}
-use mathlib.Core.Path.{_≡_, refl, sym, ap, _∙_}
+use mathlib.Core.Path.{_≡_, refl, sym, ap, ap₂, _∙_}
 use mathlib.Core.Bool.{Bool, true, false}
 use mathlib.Core.Logic.{inl, inr}
 use mathlib.Core.List.{List, []}
@@ -19,14 +19,17 @@ use Rattle.task_set.specs.declared.Part.{Part}
 use Rattle.task_set.specs.declared.Columns.{Columns}
 use Rattle.task_set.specs.declared.Locks.{Locks}
 use Rattle.task_set.specs.Code.Tasks.{tasksOf}
+use Rattle.task_set.specs.Partition.{isShared}
 use Rattle.task_set.specs.Code.Partition.{partitionOf}
 use Rattle.task_set.specs.Blocking.{Setting}
 use Rattle.task_set.specs.Code.Fine.{FinePart}
 use Rattle.task_set.specs.Code.ByColumn.{timesOf, ColumnsAre}
 use Rattle.task_set.specs.Code.ByLock.{LocksAre, LongestBelow, blockingBy, settingOf}
-use Rattle.task_set.proofs.Places.{tasks-length, tasks-place}
+use Rattle.task_set.proofs.Places.{tasks-length, tasks-place, shared-at}
 use Rattle.task_set.proofs.ByLock.{lowest-some}
+use Rattle.holding.specs.declared.Ceiling.the-variants.{Held}
 use Rattle.holding.specs.Holding.{holdingTimeOf}
+use Rattle.holding.proofs.Holding.{highest-most}
 use Rattle.budget.specs.Budget.{passes, leastBudget}
 use Rattle.budget.proofs.Passing.{budget-iff}
 use Rattle.budget.proofs.SettingsAgree.{passes-agree, leastBudget-agree}
@@ -36,11 +39,11 @@ use Rattle.candidates.specs.declared.Pair.{Pair}
 use Rattle.candidates.specs.declared.Budgeted.{Budgeted}
 use Rattle.candidates.specs.Candidates.{keptList, shownCeiling}
 use Rattle.candidates.specs.Statement.{Permitted, Candidate}
-use Rattle.candidates.specs.Code.KeptSearch.{budgetStep, BudgetIs}
+use Rattle.candidates.specs.Code.KeptSearch.{firstTime, FirstTimes, budgetStep, BudgetIs}
 use Rattle.candidates.proofs.Shown.{deadlines-holding, shown-budget}
 use Rattle.candidates.proofs.Walk.{pushed, WalkedFrom, Walked, walk-start, walk-push, walk-next, walk-missed, walk-no-budget}
 use Rattle.candidates.proofs.Count.{Used, walked-count, count-121}
-use Rattle.candidates.proofs.Known.{shownAt, shown-held, shown-missed}
+use Rattle.candidates.proofs.Known.{shownAt, Known, shown-held, shown-missed, private-shown}
 use Rattle.candidates.proofs.Settle.{AllShown, AllKnown, next-at, shown-permitted, shown-most, setting-agrees, holding-greatest}
 use Rattle.candidates.proofs.Lowest.{Tested, lowest-range, lowest-tested, lowest-found, lowest-missed}
 
@@ -79,12 +82,22 @@ module _ (p : Part) (fine : FinePart p) where
       le-trans (walked-count (partitionOf p) used e cs w) (count-121 (p .locks) (length (tasksOf p)) (fine .few-locks) (omega (arith, tasks-length p fine, fine .few)))
 
 module _ (p : Part) (fine : FinePart p) (c : Columns) (k : Locks) (locks : LocksAre p k) where
-  pub search-start : 1 ≤ p .period → (x : ℕ) → numberLimit < x → SearchAt p c numberLimit (k .lowest) (replicate 8 x) (replicate 16 x) 1
-  search-start o x h = record {
+  first-known : (times : List ℕ) → FirstTimes (p .shared) times → (j : ℕ) → j < p .locks → Known (partitionOf p) numberLimit (suc j) (getD (k .lowest) j 0) (getD times j 0)
+  first-known times first j l = go (isShared (partitionOf p) (suc j)) refl
+    where
+      time : getD times j 0 ≡ firstTime (isShared (partitionOf p) (suc j))
+      time = first j (omega (arith, fine .few-locks)) ∙ ap firstTime (sym (shared-at p j l))
+
+      go : (b : Bool) → isShared (partitionOf p) (suc j) ≡ b → Known (partitionOf p) numberLimit (suc j) (getD (k .lowest) j 0) (getD times j 0)
+      go true e = inl (omega (arith, time ∙ ap firstTime e), locks .lowest j l, e)
+      go false e = inr (private-shown (partitionOf p) numberLimit (suc j) e ∙ ap₂ Held (sym (locks .lowest j l)) (sym (time ∙ ap firstTime e)))
+
+  pub search-start : 1 ≤ p .period → (times : List ℕ) → FirstTimes (p .shared) times → (x : ℕ) → numberLimit < x → SearchAt p c numberLimit (k .lowest) times (replicate 16 x) 1
+  search-start o times first x h = record {
     last = numberLimit;
     later = omega arith;
     small = omega arith;
-    known = λ j l. inl (omega (arith, getD-replicate 8 j x (omega (arith, fine .few-locks))), locks .lowest j l);
+    known = first-known times first;
     tested = λ i l. inl (omega (arith, getD-replicate 16 i x (omega (arith, fine .few))));
     from = omega arith;
     most = o;
@@ -108,7 +121,7 @@ module _ (p : Part) (fine : FinePart p) (c : Columns) (are : ColumnsAre p c) (k 
     pub raised-most : (j : ℕ) → j < p .locks → getD (r .ceilings) j 0 ≤ 16
     raised-most j h =
         let f = least-found _ _ _ (getD (r .ceilings) j 0) (shown-held (partitionOf p) x (suc j) _ _ (shown j h) .lowest) in
-        omega (arith, f .from, f .below, tasks-length p fine, fine .few)
+        omega (arith, f .from, f .below, highest-most (partitionOf p) (suc j), tasks-length p fine, fine .few)
 
     holding-is : holdingTimeOf (partitionOf p) (shownCeiling (partitionOf p) x) ≡ r .holding
     holding-is =

@@ -1,11 +1,11 @@
 -- Candidates and the kept list of a partition v: every setting is tried.
---   settings v            == all settings: each lock's ceiling is from its lowest to n
+--   settings v            == all settings: each lock's ceiling is from its lowest to its highest, which a private lock has for its lowest
 --   candidateOf v σ       == a permitted setting's X with its least passing Q; nothing where there is none
 --   candidatesIn v        == the candidates of all settings
 --   isKept cs c           == no other (Q,X) of the list cs has X no greater and Q+X no greater
 --   keptList v            == the kept candidates, in falling X
 --   keptAnswer cs         == a list as the answer has it: up to keptLimit pairs, zeros in the places behind them, and their count
---   shownCeiling v x l    == the ceiling shown for lock l: the lowest whose w is at most x and permitted
+--   shownCeiling v x l    == the ceiling shown for lock l: the lowest whose w is at most x and permitted; a private lock is listed with its lowest ceiling
 -- Assumes nothing.
 use Prim.Native.Nat.{ℕ, zero, suc, _+_, _-_}
 use mathlib.Core.Bool.{Bool, cond, not, _&&_, _||_}
@@ -18,9 +18,9 @@ use Rattle.least.specs.Search.{leastFrom, numberOr0}
 use Rattle.least.specs.Lists.{range, every, those, joined, pad}
 use Rattle.refusal.specs.Limits.{keptLimit}
 use Rattle.task_set.specs.Tasks.{lowestCeiling}
-use Rattle.task_set.specs.Partition.{Partition}
+use Rattle.task_set.specs.Partition.{Partition, isShared}
 use Rattle.task_set.specs.Blocking.{Setting}
-use Rattle.holding.specs.Holding.{holdingOf, within, permitted, holdingTimeOf}
+use Rattle.holding.specs.Holding.{holdingOf, within, highestCeiling, permitted, holdingTimeOf}
 use Rattle.budget.specs.Budget.{leastBudget}
 use Rattle.candidates.specs.declared.Pair.{Pair}
 use Rattle.candidates.specs.declared.Kept.{Kept}
@@ -36,7 +36,7 @@ withCeiling σ l r k = cond (eqb k l) r (σ k)
 unfoldable pub settingsTo : Partition → ℕ → List Setting
 settingsTo v zero = (λ l. 0) ∷ []
 settingsTo v (suc m) =
-    joined (map (λ r. map (λ σ. withCeiling σ (suc m) r) (settingsTo v m)) (range (lowestCeiling (suc m) (v .tasks)) (length (v .tasks))))
+    joined (map (λ r. map (λ σ. withCeiling σ (suc m) r) (settingsTo v m)) (range (lowestCeiling (suc m) (v .tasks)) (highestCeiling v (suc m))))
 
 abbrev pub settings : Partition → List Setting
 settings v = settingsTo v (v .locks)
@@ -85,4 +85,6 @@ keptAnswer cs = record { pairs = pad keptLimit (pair 0 0) cs; count = length cs 
 unfoldable pub shownCeiling : Partition → ℕ → Setting
 shownCeiling v x l =
     let low = lowestCeiling l (v .tasks) in
-    numberOr0 (leastFrom (λ r. within x (holdingOf (v .tasks) l r)) low (suc (length (v .tasks)) - low))
+    cond (isShared v l)
+    (numberOr0 (leastFrom (λ r. within x (holdingOf (v .tasks) l r)) low (suc (length (v .tasks)) - low)))
+    low

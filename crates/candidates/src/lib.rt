@@ -18,7 +18,7 @@ ghost use Rattle.task_set.specs.Code.ByLock.{blockingBy};
 ghost use Rattle.budget.specs.Code.Passing.{dueTask, NoneMet, PassedIs};
 ghost use Rattle.candidates.specs.Candidates.{keptAnswer};
 ghost use Rattle.candidates.specs.Code.Candidates.{keptOf};
-ghost use Rattle.candidates.specs.Code.KeptSearch.{budgetAgain, budgetStep, BudgetIs, hasPair, pairsOf, sumAt, LighterIs};
+ghost use Rattle.candidates.specs.Code.KeptSearch.{firstTime, FirstTimes, budgetAgain, budgetStep, BudgetIs, hasPair, pairsOf, sumAt, LighterIs};
 
 // A candidate: a least passing budget Q with its setting's holding time X.
 #[repr(C)]
@@ -174,6 +174,26 @@ fn kept_list(budgets: &[u64; KEPT_LIMIT], holdings: &[u64; KEPT_LIMIT], count: u
     Kept { pairs, count }
 }
 
+// The time of a lock before the search: none is known yet of a shared lock, and of a private one none counts.
+fn first_time(shared: bool) -> u64
+    ensures { λ r. ⌜ r ≡ firstTime shared ⌝ }
+{
+    if shared { UNKNOWN } else { 0 }
+}
+
+// The same of eight locks. A lock whose time is 0 stays at its lowest ceiling.
+fn first_times(shared: &[bool; 8]) -> [u64; 8]
+    ensures { λ r. ⌜ FirstTimes (now (shared .entry)) r ⌝ }
+{
+    let mut times = [0u64; 8];
+    let mut j = 0;
+    while j < 8 {
+        times[j] = first_time(shared[j]);
+        j += 1;
+    }
+    times
+}
+
 // The kept list of a part. At x the lowest ceilings that are held for at most x need no greater budget than any other such setting; their X is the greatest
 // there is up to x, and the search goes on from X − 1.
 pub fn kept_of(part: Part) -> Kept
@@ -188,8 +208,9 @@ pub fn kept_of(part: Part) -> Kept
     let longest = locks.longest;
     let limits = locks.deadlines;
     let below = task_set::longest_below(part);
+    let shared = part.shared;
+    let mut times = first_times(&shared);
     let mut ceilings = locks.lowest;
-    let mut times = [UNKNOWN; 8];
     let mut blocked = [UNKNOWN; 16];
     let mut budget = 1;
     let mut budgets = [0u64; KEPT_LIMIT];

@@ -1,11 +1,11 @@
--- Examples A to L of paper 01: every claim of the table holds, from the definitions.
+-- Examples A to L of paper 01 and those of requests: every claim of the table holds, from the definitions.
 -- Assumes nothing.
 use Prim.Native.Nat.{_+_, _<_}
 use native.Mathlib.Omega.{arith}
 use mathlib.Core.Path.{refl}
 use Rattle.examples.specs.Table.{table, AllHold, _and_, nothingMore}
 use Rattle.examples.proofs.Opened.{opened}
-use Rattle.examples.proofs.F.{keeps-F}
+use Rattle.examples.proofs.F.{keeps-F, keeps-F-one-named, keeps-F-alone}
 
 smaller-B : (3 + 3 < 2 + 5) × (3 < 5)
 smaller-B = (omega arith, omega arith)
@@ -25,4 +25,5 @@ examples =
     and refl  -- J
     and refl and refl and refl and refl and refl  -- K
     and refl and refl and refl  -- L
+    and refl and refl and keeps-F-one-named and keeps-F-alone  -- M-100
     and nothingMore

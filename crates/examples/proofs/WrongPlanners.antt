@@ -120,7 +120,8 @@ second-top = refl
 at-top : (u : Share) → AtTop (partAt (partsIn fileTop) 2) u → u .ceilings ≡ topCeiling ∷ []
 unfolding opened
 at-top u (inl e) = e
-at-top u (inr e) = e
+at-top u (inr (inl e)) = e
+at-top u (inr (inr e)) = e
 
 only-share : {p : PlanPart} {shares : List Share} → Each AtTop (p ∷ []) shares → (u : Share) × (shares ≡ u ∷ []) × AtTop p u
 only-share (more {y = u} h none) = (u, refl, h)

@@ -1,7 +1,12 @@
--- The files and listings of examples A to L, byte for byte.
+-- The files and listings of examples A to L, and of those of requests, byte for byte.
 --   fileA, listingA == example A as it is typed, and as the program prints it
 --   cardAt P        == A with another period of the part card
---   fileF           == table 1 of document 001, all times doubled, D = T, P = 250, locks r1 and r2
+--   fileFWith parts == table 1 of document 001, all times doubled, D = T, P = 250, locks r1 and r2, with these lines of other parts behind it
+--   fileF           == the same with a second part that names r1 and r2
+--   fileFOneNamed   == with a second part that names r2 only
+--   fileFAlone      == without a second part
+--   filePrivate, listingPrivate == a file with one part, whose lock is private, and its listing
+--   fileBlocked     == the same, where the higher task uses the lock too, and so is blocked
 --   fileTop, listingTop     == a file whose second part has a ceiling below the top, and its listing
 --   fileSecond, listingSecond == a file whose first choice does not pass while another does, and its listing
 --   onePart P tasks == a file with one part of period P and the given task lines
@@ -29,14 +34,34 @@ listingC = bytes "load\tcard\t10\t10\nshare\tcard\t10\t2\t2\t10\t10\nceiling\tbu
 unfoldable pub listingD : List ℕ
 listingD = bytes "load\tcard\t9\t9\nshare\tcard\t9\t1\t2\t9\t9\nceiling\tbuf\t1\nshare\tprint\t10\t3\t3\t8\t10\nceiling\tbuf\t2\n"
 
+unfoldable pub fileFWith : String → List ℕ
+fileFWith parts =
+    bytes "part\ts\t250\ntask\tt1\t1500\t16\t1500\nlock\tr2\t8\ntask\tt2\t1300\t100\t1300\nlock\tr1\t10\ntask\tt3\t1200\t20\t1200\ntask\tt4\t1000\t70\t1000\nlock\tr1\t20\ntask\tt5\t320\t2\t320\ntask\tt6\t300\t4\t300\n"
+    ++ (bytes parts ++ bytes "end\n")
+
 unfoldable pub fileF : List ℕ
-fileF = bytes "part\ts\t250\ntask\tt1\t1500\t16\t1500\nlock\tr2\t8\ntask\tt2\t1300\t100\t1300\nlock\tr1\t10\ntask\tt3\t1200\t20\t1200\ntask\tt4\t1000\t70\t1000\nlock\tr1\t20\ntask\tt5\t320\t2\t320\ntask\tt6\t300\t4\t300\nend\n"
+fileF = fileFWith "part\to\t250\ntask\tu\t1000\t1\t1000\nlock\tr1\t1\nlock\tr2\t1\n"
+
+unfoldable pub fileFOneNamed : List ℕ
+fileFOneNamed = fileFWith "part\to\t250\ntask\tu\t1000\t1\t1000\nlock\tr2\t1\n"
+
+unfoldable pub fileFAlone : List ℕ
+fileFAlone = fileFWith ""
 
 unfoldable pub onePart : String → String → List ℕ
 onePart P tasks = bytes "part\tp\t" ++ (bytes P ++ (bytes "\n" ++ (bytes tasks ++ bytes "end\n")))
 
 unfoldable pub listingI : List ℕ
 listingI = bytes "load\tp\t10\t10\nshare\tp\t10\t10\t0\t10\t10\n"
+
+unfoldable pub filePrivate : List ℕ
+filePrivate = onePart "10" "task\ta\t60\t6\t60\nlock\tl\t3\ntask\tb\t30\t2\t30\n"
+
+unfoldable pub fileBlocked : List ℕ
+fileBlocked = onePart "10" "task\ta\t60\t6\t60\nlock\tl\t3\ntask\tb\t30\t2\t30\nlock\tl\t1\n"
+
+unfoldable pub listingPrivate : List ℕ
+listingPrivate = bytes "load\tp\t2\t10\nshare\tp\t10\t2\t0\t2\t10\nceiling\tl\t1\n"
 
 unfoldable pub everyTicks : String → List ℕ
 everyTicks n = bytes "part\tp\t1\ntask\tt\t" ++ (bytes n ++ bytes "\t1\t1\nend\n")

@@ -1,7 +1,7 @@
--- Examples A to L of paper 01 as one table.
+-- Examples A to L of paper 01, and those of requests of paper 02, as one table.
 --   Claim    == what an example says of the program, of an operation or of a definition
 --   Holds c  == that it is so
---   table    == the claims, with the letters of paper 01
+--   table    == the claims, with the letters of paper 01 and the numbers of requests
 --   AllHold  == every claim of a table holds
 -- Assumes nothing.
 use Prim.Native.Nat.{ℕ, _+_, _<_}
@@ -23,7 +23,7 @@ use Rattle.candidates.specs.Candidates.{pair, samePair, candidateOf}
 use Rattle.plan_file.specs.Numbers.{PlanPart, partsOf, partAt}
 use Rattle.answers.specs.Answers.{candidatesOf, supplyAnswer}
 use Rattle.console.specs.Printed.{printedOf}
-use Rattle.examples.specs.Files.{refusalLine, fileA, listingA, cardAt, listingC, listingD, fileF, onePart, listingI, everyTicks, listingL}
+use Rattle.examples.specs.Files.{refusalLine, fileA, listingA, cardAt, listingC, listingD, fileF, fileFOneNamed, fileFAlone, filePrivate, fileBlocked, listingPrivate, onePart, listingI, everyTicks, listingL}
 
 pub data Claim : Type 0 where
   -- the program prints this of the file
@@ -97,6 +97,10 @@ table =
     ∷ at "L" (prints (everyTicks "1000000") listingL)
     ∷ at "L" (refuses (everyTicks "1000001") 7 2)
     ∷ at "L" (refuses (everyTicks "010") 7 2)
+    ∷ at "M100" (prints filePrivate listingPrivate)
+    ∷ at "M100" (keeps fileBlocked 1 (pair 3 0 ∷ []))
+    ∷ at "M100" (keeps fileFOneNamed 1 (pair 106 8 ∷ []))
+    ∷ at "M100" (keeps fileFAlone 1 (pair 102 0 ∷ []))
     ∷ []
 
 infixr 60 _and_

@@ -24,7 +24,7 @@ use Rattle.refusal.specs.Questions.Answer.{answered}
 use Rattle.task_set.specs.Blocking.{Setting}
 use Rattle.load.specs.declared.Row.{Row}
 use Rattle.load.specs.Load.{row, passesSystem}
-use Rattle.holding.specs.Holding.{holdingTimeOf}
+use Rattle.holding.specs.Holding.{highestCeiling, holdingTimeOf}
 use Rattle.candidates.specs.Candidates.{shownCeiling}
 use Rattle.plan_file.specs.Numbers.{PlanPart, partsOf}
 use Rattle.listing.specs.Listing.{Share, ceilingsUnder, listingOf}
@@ -53,15 +53,19 @@ PrintsA planner = (s before : List ℕ) (ps : List PlanPart) → partsOf s ≡ a
 abbrev pub LeavesBlank : Planner → Type 0
 LeavesBlank planner = (s : List ℕ) (room : ℕ) (ps : List PlanPart) → partsOf s ≡ answered ps → planner s (replicate room 0) .bytes ≡ replicate room 0
 
--- every lock at the top: the number of the highest task
+-- every lock at the top, the number of the highest task; and every lock as high as it may be, a private one at its lowest ceiling
 abbrev pub topSetting : PlanPart → Setting
 topSetting p l = length (p .numbers .tasks)
+
+abbrev pub highestSetting : PlanPart → Setting
+highestSetting p l = highestCeiling (p .numbers) l
 
 -- what is printed of the part are its top ceilings, or the ceilings shown for their X
 abbrev pub AtTop : PlanPart → Share → Type 0
 AtTop p s =
     let X = holdingTimeOf (p .numbers) (topSetting p) in
-    (s .ceilings ≡ ceilingsUnder (topSetting p) 1 (p .locks)) ⊎ (s .ceilings ≡ ceilingsUnder (shownCeiling (p .numbers) X) 1 (p .locks))
+    (s .ceilings ≡ ceilingsUnder (topSetting p) 1 (p .locks))
+    ⊎ ((s .ceilings ≡ ceilingsUnder (highestSetting p) 1 (p .locks)) ⊎ (s .ceilings ≡ ceilingsUnder (shownCeiling (p .numbers) X) 1 (p .locks)))
 
 abbrev pub TopAfterFirst : Planner → Type 0
 TopAfterFirst planner =

@@ -20,3 +20,5 @@ pub mod Members
 pub mod Count
 pub mod First
 pub mod Columns
+pub mod Passing
+pub mod Places

@@ -18,6 +18,12 @@ and-iff true b = ((λ e. (refl, e)), λ h. h .1)
 and-iff false b = ((λ e. absurd (false≢true e)), λ h. h .0)
 
 -- a, unless b does not hold
+-- two tests that hold in the same cases are the same
+pub same-test : (a b : Bool) → ((a ≡ true) ↔ (b ≡ true)) → a ≡ b
+same-test true b h = sym (h .0 refl)
+same-test false true h = h .1 refl
+same-test false false h = refl
+
 pub or-not-iff : (a b : Bool) → ((a || not b) ≡ true) ↔ (b ≡ true → a ≡ true)
 or-not-iff true b = ((λ e h. refl), λ h. refl)
 or-not-iff false true = ((λ e h. e), λ h. h refl)

@@ -1,7 +1,7 @@
--- The names of a readable file are short, and its numbers and counts in range, by questions 5 to 9.
+-- The names of a readable file are good and short, and its numbers and counts in range, by questions 5 to 9.
 --   FineFileLock C l == of a lock l of a task with the cost C: 1 ≤ c ≤ C
 --   FineFileTask t   == 1 ≤ C ≤ D ≤ T ≤ 1,000,000, and so of its locks
---   FineFilePart p   == 1 ≤ P ≤ 1,000,000, at most 16 tasks and 8 lock names, names of at most 8 bytes, and so of its tasks
+--   FineFilePart p   == 1 ≤ P ≤ 1,000,000, at most 16 tasks and 8 lock names, a name of at most 8 bytes, good lock names, and so of its tasks
 -- Assumes nothing.
 use Prim.Native.Nat.{ℕ, suc, _≤_}
 use native.Mathlib.Omega.{arith}
@@ -48,13 +48,13 @@ pub record FineFilePart (p : FilePart) : Type 0 where
   pub few-tasks : length (p .tasks) ≤ taskLimit
   pub few-locks : length (lockNames p) ≤ lockLimit
   pub name-most : length (p .name) ≤ nameLimit
-  pub lock-names-most : (n : List ℕ) → List·Memᴰ n (lockNames p) → length n ≤ nameLimit
+  pub lock-names-good : (n : List ℕ) → List·Memᴰ n (lockNames p) → isName n ≡ true
   pub each-task : (t : FileTask) → List·Memᴰ t (p .tasks) → FineFileTask t
 
 abbrev pub AllFine : List FilePart → Type 0
 AllFine ps = (p : FilePart) → List·Memᴰ p ps → FineFilePart p
 
-name-short : (name : List ℕ) → isName name ≡ true → length name ≤ nameLimit
+pub name-short : (name : List ℕ) → isName name ≡ true → length name ≤ nameLimit
 name-short name e = name-iff name .0 e .to
 
 -- a part without tasks
@@ -66,7 +66,7 @@ new-part-fine name P h k e = record {
   few-tasks = omega arith;
   few-locks = omega arith;
   name-most = name-short name e;
-  lock-names-most = λ n m. absurd (List·Memᴰ·not-nil m);
+  lock-names-good = λ n m. absurd (List·Memᴰ·not-nil m);
   each-task = λ t m. absurd (List·Memᴰ·not-nil m);
 }
 
@@ -87,7 +87,7 @@ module _ (p : FilePart) (fine : FineFilePart p) where
     few-tasks = omega (arith, length-append (p .tasks) (t ∷ []));
     few-locks = rw (lock-names-task p t e) (fine .few-locks);
     name-most = fine .name-most;
-    lock-names-most = rw (lock-names-task p t e) (fine .lock-names-most);
+    lock-names-good = rw (lock-names-task p t e) (fine .lock-names-good);
     each-task = snoc-each FineFileTask (p .tasks) t (fine .each-task) f;
   }
 
@@ -110,7 +110,7 @@ module _ (p : FilePart) (fine : FineFilePart p) where
     few-tasks = rw (length-on-last (withLock l) (p .tasks)) (fine .few-tasks);
     few-locks = few;
     name-most = fine .name-most;
-    lock-names-most = rw (lock-names-lock p l some) (mention-each (λ n. length n ≤ nameLimit) (lockNames p) (l .name) (fine .lock-names-most) (name-short (l .name) e));
+    lock-names-good = rw (lock-names-lock p l some) (mention-each (λ n. isName n ≡ true) (lockNames p) (l .name) (fine .lock-names-good) e);
     each-task = on-last-each FineFileTask (withLock l) noTask (p .tasks) (fine .each-task) (λ k. with-lock-fine l (lastTask p) (last-fine some) h);
   }
 

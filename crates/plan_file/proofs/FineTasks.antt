@@ -29,12 +29,12 @@ nth-map-most f b zero (x ∷ xs) h = omega arith
 nth-map-most f b (suc zero) (x ∷ xs) h = h x
 nth-map-most f b (suc (suc k)) (x ∷ xs) h = nth-map-most f b (suc k) xs h
 
-nth-map : {A : Type 0} (f : A → ℕ) (d : A) (k : ℕ) (xs : List A) → 1 ≤ k → k ≤ length xs → nthOr 0 k (map f xs) ≡ f (nthOr d k xs)
+pub nth-map : {A B : Type 0} (f : A → B) (d : A) (e : B) (k : ℕ) (xs : List A) → 1 ≤ k → k ≤ length xs → nthOr e k (map f xs) ≡ f (nthOr d k xs)
 unfolding nthOr
-nth-map f d zero xs h l = absurd (omega arith)
-nth-map f d (suc k) [] h l = absurd (omega arith)
-nth-map f d (suc zero) (x ∷ xs) h l = refl
-nth-map f d (suc (suc k)) (x ∷ xs) h l = nth-map f d (suc k) xs (omega arith) (omega arith)
+nth-map f d e zero xs h l = absurd (omega arith)
+nth-map f d e (suc k) [] h l = absurd (omega arith)
+nth-map f d e (suc zero) (x ∷ xs) h l = refl
+nth-map f d e (suc (suc k)) (x ∷ xs) h l = nth-map f d e (suc k) xs (omega arith) (omega arith)
 
 -- what no lock of a list exceeds, the lock of a name among them does not exceed
 held-most : (b : ℕ) (name : List ℕ) (ls : List FileLock) → ((l : FileLock) → List·Memᴰ l ls → l .held ≤ b) → heldUnder name ls ≤ b
@@ -76,5 +76,5 @@ module _ (p : FilePart) (fine : FineFilePart p) where
       let name = nthOr [] l (lockNames p) in
       let t = mentioned name (nth-member [] l (lockNames p) h k) in
       let held : 1 ≤ heldUnder name (t .0 .locks) = leb-true 1 (heldUnder name (t .0 .locks)) (known-held name (t .0 .locks) (λ x m. fine .each-task (t .0) (t .1) .each-lock x m .held-some) ∙ t .2) in
-      let is = nth-map (λ n. heldUnder n (t .0 .locks)) [] l (lockNames p) h k in
+      let is = nth-map (λ n. heldUnder n (t .0 .locks)) [] 0 l (lockNames p) h k in
       omega (arith, held, is, greatest-each (heldFor l) (tasksIn p) (taskIn (lockNames p) (t .0)) (Memᴰ·map (taskIn (lockNames p)) (t .1)))

@@ -4,11 +4,12 @@
 --   StopsAt n a ls r  == one of these lines has a no with the refusal r, and all before it has yes
 --   RefusedAt s r     == the file s is refused with r: it is too long; a line has a no; or it runs out before `end`
 --   AnsweredBy s ps   == the file s is readable, and ps are its parts
+--   NamedByAnother ps k name == a part of ps other than part k names the lock of this name
 -- Assumes nothing.
 use Prim.Native.Nat.{ℕ, _+_, _≤_, _<_}
 use mathlib.Core.Path.{_≡_}
 use mathlib.Core.Bool.{true, false}
-use mathlib.Core.List.{List, [], _∷_, _++_}
+use mathlib.Core.List.{List, [], _∷_, _++_, List·Memᴰ}
 use lib.ListN.{length}
 use Rattle.refusal.specs.declared.Refusal.{Refusal}
 use Rattle.refusal.specs.declared.Refusal.the-variants.{FileTooLong, Misplaced}
@@ -18,7 +19,7 @@ use Rattle.text.specs.Bytes.{Line, linesOf}
 use Rattle.records.specs.Records.{recordIn}
 use Rattle.plan_file.specs.Above.{Above, nothingAbove, after}
 use Rattle.plan_file.specs.Reading.{isEnd, questionsAt}
-use Rattle.plan_file.specs.Numbers.{PlanPart, planParts}
+use Rattle.plan_file.specs.Numbers.{PlanPart, planParts, partAt}
 
 unfoldable pub said : Above → List Line → Above
 said a [] = a
@@ -46,3 +47,6 @@ pub record AnsweredBy (s : List ℕ) (ps : List PlanPart) : Type 0 where
   pub yes : AllYes 1 nothingAbove (linesOf s)
   pub ended : isEnd (said nothingAbove (linesOf s) .directly) ≡ true
   pub are : planParts (said nothingAbove (linesOf s) .parts) ≡ ps
+
+abbrev pub NamedByAnother : List PlanPart → ℕ → List ℕ → Type 0
+NamedByAnother ps k name = (j : ℕ) × (1 ≤ j) × (j ≤ length ps) × (j ≡ k → ⊥) × List·Memᴰ name (partAt ps j .locks)

@@ -19,8 +19,7 @@ use Rattle.task_set.specs.Partition.{Partition}
 use Rattle.load.specs.declared.Row.{Row}
 use Rattle.load.specs.Load.{boundsOf, loadOf, passesSystem}
 use Rattle.load.proofs.Load.{boundsOf-length}
-use Rattle.plan_file.specs.Above.{noPart}
-use Rattle.plan_file.specs.Numbers.{PlanPart, planPart, partsOf, partAt}
+use Rattle.plan_file.specs.Numbers.{PlanPart, partsOf, noPlanPart, partAt}
 use Rattle.listing.specs.Listing.{Share, shareUnder}
 use Rattle.answers.specs.Parts.{keptRows, shareOf, sharesOf}
 use Rattle.answers.specs.Answers.{planOf, PlanAnswered}
@@ -54,7 +53,7 @@ module _ (ps : List PlanPart) where
         from = f .some;
         to = omega (arith, f .most, length-map vs keptRows, length-map ps (λ p. p .numbers));
         none = λ σ Q b. none-chosen ps _ f (rowUnder _ σ Q) (record { setting = σ; budget = Q; local = b; is = refl });
-        first = λ i a b. some-kept (partAt ps i .numbers) (sym (empty-at ps i) ∙ f .before (keptRows (planPart noPart .numbers)) i a b);
+        first = λ i a b. some-kept (partAt ps i .numbers) (sym (empty-at ps i) ∙ f .before (keptRows (noPlanPart .numbers)) i a b);
       }
 
   -- what the plan prints

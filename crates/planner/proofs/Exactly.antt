@@ -23,8 +23,7 @@ use Rattle.refusal.proofs.Answers.{done-not-refused, outcome-same-refusal}
 use Rattle.task_set.specs.Partition.{Partition}
 use Rattle.load.specs.declared.Row.{Row}
 use Rattle.load.specs.Load.{row, loadOf}
-use Rattle.plan_file.specs.Above.{noPart}
-use Rattle.plan_file.specs.Numbers.{PlanPart, planPart}
+use Rattle.plan_file.specs.Numbers.{PlanPart, noPlanPart}
 use Rattle.listing.specs.Listing.{Share}
 use Rattle.answers.specs.declared.Planned.{Planned}
 use Rattle.answers.specs.Answers.{planned, bufferAfter, HandedOver, PlanAnswered}
@@ -44,8 +43,8 @@ each-at d e (suc (suc k)) (more h hs) a b = each-at d e (suc k) hs (omega arith)
 -- no choice passes where there is none to plan
 pub none-to-plan : {ps : List PlanPart} {r : Refusal} → NoneToPlan ps r → (rs : List Row) → PassingChoice ps rs → ⊥
 none-to-plan {ps} (ten {j} n) rs c =
-    let at = each-at (planPart noPart .numbers) (row 0 0 0) j (c .choice) (n .from) (omega (arith, n .to, length-map ps (λ p. p .numbers))) in
-    let k = subst (λ (v : Partition). Chosen v (nthOr (row 0 0 0) j rs)) (nth-of-map (λ (p : PlanPart). p .numbers) (planPart noPart) j ps) at in
+    let at = each-at (noPlanPart .numbers) (row 0 0 0) j (c .choice) (n .from) (omega (arith, n .to, length-map ps (λ p. p .numbers))) in
+    let k = subst (λ (v : Partition). Chosen v (nthOr (row 0 0 0) j rs)) (nth-of-map (λ (p : PlanPart). p .numbers) noPlanPart j ps) at in
     n .none (k .setting) (k .budget) (k .local)
 none-to-plan (eleven each never) rs c = never rs c
 

@@ -17,11 +17,11 @@ use Rattle.text.proofs.Bytes.{lineBytes, lines-join, fields-join, same-true}
 use Rattle.scan.specs.Line.{lineIsGood}
 use Rattle.records.specs.Records.{Record, recordOf, recordIn, nameSpan}
 use Rattle.records.specs.Records.Record.{part, task, lock, end, noRecord}
-use Rattle.plan_file.specs.Above.{FilePart, Above, noPart, nothingAbove, partsAfter, after}
+use Rattle.plan_file.specs.Above.{FilePart, Above, nothingAbove, partsAfter, after}
 use Rattle.plan_file.specs.Stretches.{noSpan, spanOn, spansFrom, nameSpans}
 use Rattle.plan_file.specs.Reading.{questionsAt, partNames}
 use Rattle.plan_file.specs.Statement.{said, AllYes, AnsweredBy}
-use Rattle.plan_file.specs.Numbers.{PlanPart, planPart, partAt}
+use Rattle.plan_file.specs.Numbers.{PlanPart, planPart, noPlanPart, partAt}
 use Rattle.plan_file.proofs.Reading.{yes-first, yes-rest}
 
 -- the fields of a `part`
@@ -89,8 +89,8 @@ names-from s front n a (l ∷ ls) all is =
 pub names-stretches : (s : List ℕ) (ps : List PlanPart) → AnsweredBy s ps → map (bytesOf s) (nameSpans s) ≡ map (λ p. p .name) ps
 unfolding nameSpans
 names-stretches s ps d =
-    sym (names-from s [] 1 nothingAbove (linesOf s) (d .yes) (sym (lines-join s))) ∙ sym (map-map (λ (p : PlanPart). p .name) planPart (said nothingAbove (linesOf s) .parts)) ∙ ap (map (λ (p : PlanPart). p .name)) (d .are)
+    sym (names-from s [] 1 nothingAbove (linesOf s) (d .yes) (sym (lines-join s))) ∙ sym (map-map (λ (p : PlanPart). p .name) (planPart (said nothingAbove (linesOf s) .parts)) (said nothingAbove (linesOf s) .parts)) ∙ ap (map (λ (p : PlanPart). p .name)) (d .are)
 
 pub name-stretch : (s : List ℕ) (ps : List PlanPart) (k : ℕ) → AnsweredBy s ps → bytesOf s (nthOr noSpan k (nameSpans s)) ≡ partAt ps k .name
 unfolding bytesOf
-name-stretch s ps k d = sym (nth-of-map (bytesOf s) noSpan k (nameSpans s)) ∙ ap (nthOr [] k) (names-stretches s ps d) ∙ nth-of-map (λ p. p .name) (planPart noPart) k ps
+name-stretch s ps k d = sym (nth-of-map (bytesOf s) noSpan k (nameSpans s)) ∙ ap (nthOr [] k) (names-stretches s ps d) ∙ nth-of-map (λ p. p .name) noPlanPart k ps

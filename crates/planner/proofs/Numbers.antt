@@ -4,7 +4,7 @@ use Prim.Native.Nat.{ℕ}
 use mathlib.Core.Path.{_≡_, refl, sym, ap, _∙_, subst}
 use mathlib.Core.Bool.{Bool, true, false, not}
 use mathlib.Core.Logic.{_↔_}
-use mathlib.Core.List.{List, [], _∷_}
+use mathlib.Core.List.{List, [], _∷_, List·Memᴰ}
 use lib.IntN.{pos}
 use Rattle.least.specs.Lists.{isEmpty}
 use Rattle.least.specs.Fraction.{frac}
@@ -27,8 +27,7 @@ use Rattle.load.specs.declared.Row.{Row}
 use Rattle.load.specs.Weigh.{weighQuestions, weighed, weighOf, rowsOf, structQuestions, weighRows}
 use Rattle.candidates.specs.declared.Pair.{Pair}
 use Rattle.candidates.specs.Candidates.{pair, keptAnswer, keptList}
-use Rattle.plan_file.specs.Above.{noPart}
-use Rattle.plan_file.specs.Numbers.{PlanPart, planPart, partsOf, partAt}
+use Rattle.plan_file.specs.Numbers.{PlanPart, partsOf, noPlanPart, partAt}
 use Rattle.plan_file.specs.PartLines.{linesOfPart}
 use Rattle.plan_file.proofs.PlanParts.{FinePlanPart, parts-fine}
 use Rattle.plan_file.proofs.Reading.{parts-answered-iff}
@@ -36,7 +35,7 @@ use Rattle.answers.specs.Answers.{planned, isPartNumber, candidatesOf, candidat
 use Rattle.answers.specs.Choice.{Budgeted}
 use Rattle.inquiries.specs.Stretch.{noName, stretched, nameStretch}
 use Rattle.planner.specs.Refusals.{PartOf, SupplyFits}
-use Rattle.planner.specs.Numbers.{KeptIs, NameAt, notWeighed, EveryNumber}
+use Rattle.planner.specs.Numbers.{KeptIs, SameNamed, NameAt, notWeighed, EveryNumber}
 use Rattle.planner.proofs.Local.{candidates-kept, candidates-local}
 use Rattle.planner.proofs.Weighing.{weighed-outcome, weighOf-is}
 use Rattle.planner.proofs.KeptList.{kept-is, no-budget-iff, some-budget, kept-few}
@@ -90,7 +89,7 @@ module _ (s : List ℕ) (k : ℕ) where
     kept-of-part : KeptIs (p .numbers) (candidateList (candidatesOf s k) .kept)
     kept-of-part =
         rw (candidates-kept s k (d .parts) (reads d) (d .from) (d .to), d .is)
-        (kept-is (p .numbers) (kept-few p (subst FinePlanPart (d .is) (parts-fine s (d .parts) (reads d) (partAt (d .parts) k) (nth-member (planPart noPart) k (d .parts) (d .from) (d .to))))))
+        (kept-is (p .numbers) (kept-few p (subst FinePlanPart (d .is) (parts-fine s (d .parts) (reads d) (partAt (d .parts) k) (nth-member noPlanPart k (d .parts) (d .from) (d .to))))))
 
     -- name
     name-given : nameOf s k ≡ answered (p .name)
@@ -106,8 +105,10 @@ module _ (s : List ℕ) (k : ℕ) where
     name-is = rw name-given (record { done = refl; span = refl; bytes = name-stretch s (d .parts) k (d .readable) ∙ ap (λ (q : PlanPart). q .name) (d .is) })
 
 -- the same lines
-same-lines : (s u : List ℕ) (j k : ℕ) (p q : PlanPart) → PartOf s j p → PartOf u k q → linesOfPart j s ≡ linesOfPart k u → candidateList (candidatesOf s j) .kept ≡ candidateList (candidatesOf u k) .kept
-same-lines s u j k p q d e = candidates-local s u j k (d .parts) (e .parts) (reads s j d) (reads u k e) (d .from) (d .to) (e .from) (e .to)
+same-lines : (s u : List ℕ) (j k : ℕ) (p q : PlanPart) (d : PartOf s j p) (e : PartOf u k q) → linesOfPart j s ≡ linesOfPart k u → SameNamed d e
+    → candidateList (candidatesOf s j) .kept ≡ candidateList (candidatesOf u k) .kept
+same-lines s u j k p q d e same named =
+    candidates-local s u j k (d .parts) (e .parts) (reads s j d) (reads u k e) (d .from) (d .to) (e .from) (e .to) same (λ name m. named name (subst (λ (r : PlanPart). List·Memᴰ name (r .locks)) (d .is) m))
 
 -- refusals
 weighed-refused : (o : Outcome) (rows : List Row) (r : Refusal) → weighed o rows .outcome ≡ Refused r → weighed o rows ≡ notWeighed r

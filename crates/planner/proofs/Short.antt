@@ -4,20 +4,17 @@ use Prim.Native.Nat.{ℕ, suc, _+_, _≤_, _<_}
 use native.Mathlib.Omega.{arith}
 use mathlib.Core.Path.{_≡_, refl, sym, ap, subst, _∙_}
 use mathlib.Core.List.{List, [], _∷_, List·Memᴰ, List·Memᴰ·head, List·Memᴰ·tail, Memᴰ·map}
-use borrow.Author.Tests.{leb-true}
-use lib.Dec.{leb}
 use lib.ListN.{length}
 use Rattle.least.specs.Each.{Each}
 use Rattle.least.specs.Each.Each.{more}
 use Rattle.least.proofs.Each.{length-equal}
-use Rattle.least.proofs.Lists.{and-iff, map-iff, every-range}
+use Rattle.least.proofs.Lists.{map-iff}
 use Rattle.refusal.specs.Limits.{numberLimit, partLimit}
 use Rattle.task_set.specs.Blocking.{Setting}
-use Rattle.task_set.specs.Tasks.{lowestCeiling}
 use Rattle.task_set.specs.Partition.{Partition}
 use Rattle.load.specs.declared.Row.{Row}
 use Rattle.load.proofs.Load.{boundsOf-small}
-use Rattle.holding.specs.Holding.{inRange}
+use Rattle.holding.proofs.Holding.{inRange-paper, highest-most}
 use Rattle.candidates.specs.Statement.{Permitted}
 use Rattle.candidates.proofs.Shown.{deadlines-holding}
 use Rattle.plan_file.specs.Numbers.{PlanPart}
@@ -55,9 +52,7 @@ under-member σ l (name ∷ names) c (List·Memᴰ·tail m) =
 
 -- a ceiling is a task number
 ceiling-most : (v : Partition) (σ : Setting) → Permitted v σ → (l : ℕ) → 1 ≤ l → l ≤ v .locks → σ l ≤ length (v .tasks)
-unfolding inRange
-ceiling-most v σ h l a b =
-    leb-true (σ l) (length (v .tasks)) (and-iff (leb (lowestCeiling l (v .tasks)) (σ l)) (leb (σ l) (length (v .tasks))) .0 (every-range (λ k. _) 1 (v .locks) .0 (h .ranged) l a b) .1)
+ceiling-most v σ h l a b = omega (arith, inRange-paper v σ .0 (h .ranged) l a b .1, highest-most v l)
 
 -- what is printed of a part
 module _ (p : PlanPart) (fine : FinePlanPart p) (s : Share) (h : PrintedShare p s) where

@@ -1,6 +1,7 @@
 -- Demand 2, its half about numbers: what every number of an answer is, by the paper's sentence. The holding times, blockings and budgets of the kept
 -- pairs are in LocalTest; what a plan prints is demand 3.
 --   KeptIs v a      == a has the kept pairs of the partition v, in falling X, up to 121, and their count
+--   SameNamed d e   == of two parts, another part of its file names each lock of the one in both files or in none
 --   NameAt s k p n  == n is the stretch of the name of part k, which is p, on its `part` line
 --   EveryNumber     == the numbers of the five operations, answered and refused
 -- Assumes nothing.
@@ -31,6 +32,7 @@ use Rattle.candidates.specs.Statement.{IsKept}
 use Rattle.plan_file.specs.Stretches.{noSpan, nameSpans}
 use Rattle.plan_file.specs.Numbers.{PlanPart}
 use Rattle.plan_file.specs.PartLines.{linesOfPart}
+use Rattle.plan_file.specs.Statement.{NamedByAnother}
 use Rattle.answers.specs.Answers.{planOf, planned, candidatesOf, candidateList, nameOf, nameBytes, supplyAnswer, supplied}
 use Rattle.answers.specs.Choice.{Budgeted}
 use Rattle.inquiries.specs.declared.NameStretch.{NameStretch}
@@ -61,6 +63,10 @@ pub record NameAt (s : List ℕ) (k : ℕ) (p : PlanPart) (n : NameStretch) : Ty
 abbrev pub notWeighed : Refusal → Weighed
 notWeighed r = record { outcome = Refused r; bounds = replicate rowLimit (frac 0 0); load = frac 0 0; row = 0 }
 
+-- part j of the file s and part k of the file u: each lock of the former is named by another part in both files or in none
+abbrev pub SameNamed : {s u : List ℕ} {j k : ℕ} {p q : PlanPart} → PartOf s j p → PartOf u k q → Type 0
+SameNamed {j = j} {k = k} {p = p} d e = (name : List ℕ) → List·Memᴰ name (p .locks) → NamedByAnother (d .parts) j name ↔ NamedByAnother (e .parts) k name
+
 pub record EveryNumber : Type 0 where
   -- the supply of (P,Q) in t ticks, by the paper's formula in signed numbers
   pub supply : (P Q t : ℕ) → SupplyFits P Q t → (x : ℕ) × (supplied (supplyAnswer P Q t) ≡ record { outcome = Done; ticks = x }) × (signedSupply (pos P) (pos Q) (pos t) ≡ pos x)
@@ -70,8 +76,9 @@ pub record EveryNumber : Type 0 where
   pub candidates : (s : List ℕ) (k : ℕ) → (candidateList (candidatesOf s k) .outcome ≡ Done) ↔ ((p : PlanPart) × PartOf s k p × (σ : Setting) × (Q : ℕ) × Budgeted (p .numbers) σ Q)
   -- the candidate answer is the kept pairs (Q,X) and their count
   pub kept : (s : List ℕ) (k : ℕ) (p : PlanPart) → PartOf s k p → KeptIs (p .numbers) (candidateList (candidatesOf s k) .kept)
-  -- in two files with the same lines for one part, that part's list is the same
-  pub same-lines : (s u : List ℕ) (j k : ℕ) (p q : PlanPart) → PartOf s j p → PartOf u k q → linesOfPart j s ≡ linesOfPart k u → candidateList (candidatesOf s j) .kept ≡ candidateList (candidatesOf u k) .kept
+  -- a part's list depends on its own lines and on which of its locks another part names: in two files with the same of both, that part's list is the same
+  pub same-lines : (s u : List ℕ) (j k : ℕ) (p q : PlanPart) (d : PartOf s j p) (e : PartOf u k q) → linesOfPart j s ≡ linesOfPart k u → SameNamed d e
+      → candidateList (candidatesOf s j) .kept ≡ candidateList (candidatesOf u k) .kept
   -- the name of a part is handed back as that stretch of the caller's own file
   pub name : (s : List ℕ) (k : ℕ) (p : PlanPart) → PartOf s k p → nameBytes (nameOf s k) ≡ p .name
   pub stretch : (s : List ℕ) (k : ℕ) (p : PlanPart) → PartOf s k p → NameAt s k p (nameStretch s k)

@@ -1,4 +1,4 @@
-// The lowest ceilings of all locks of a part that are held for at most x, from those at a greater x.
+// The lowest ceilings of all locks of a part that are held for at most x, from those at a greater x. A lock that comes with the time 0, as a private one does, keeps its ceiling.
 use holding::Ceiling;
 use holding::Hint;
 use holding::Lowest;

@@ -27,8 +27,7 @@ use Rattle.task_set.specs.Code.Fine.{FineTask}
 use Rattle.load.specs.declared.Row.{Row}
 use Rattle.load.specs.Load.{row, rowSum, demandOf, loadAt, boundsOf}
 use Rattle.load.proofs.Load.{boundsOf-small}
-use Rattle.plan_file.specs.Above.{noPart}
-use Rattle.plan_file.specs.Numbers.{PlanPart, partsOf, partAt, planPart}
+use Rattle.plan_file.specs.Numbers.{PlanPart, partsOf, noPlanPart, partAt}
 use Rattle.plan_file.proofs.Reading.{parts-answered-iff}
 use Rattle.plan_file.proofs.PlanParts.{FinePlanPart, parts-fine, parts-few}
 use Rattle.listing.proofs.Lengths.{listingLimit}
@@ -55,7 +54,7 @@ releases-most t T h k l = go (decLe t T)
 -- the tasks of a part of a readable file
 module _ (s : List ℕ) (k : ℕ) (p : PlanPart) (d : PartOf s k p) where
   part-fine : FinePlanPart p
-  part-fine = subst FinePlanPart (d .is) (parts-fine s (d .parts) (parts-answered-iff s (d .parts) .1 (d .readable)) (partAt (d .parts) k) (nth-member (planPart noPart) k (d .parts) (d .from) (d .to)))
+  part-fine = subst FinePlanPart (d .is) (parts-fine s (d .parts) (parts-answered-iff s (d .parts) .1 (d .readable)) (partAt (d .parts) k) (nth-member noPlanPart k (d .parts) (d .from) (d .to)))
 
   task-fine : (x : Task) → List·Memᴰ x (p .numbers .tasks) → FineTask (p .numbers .locks) x
   task-fine = part-fine .each-task (p .numbers .locks)

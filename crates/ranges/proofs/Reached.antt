@@ -56,12 +56,15 @@ busy-need : 1000000 + demandIn (replicate 15 (alike 999999)) numberLimit ≡ gre
 unfolding demandIn sum ceilDiv
 busy-need = refl
 
-busy-part : PartOf file 1 (planPart busy)
+abbrev busyPart : PlanPart
+busyPart = planPart (busy ∷ []) busy
+
+busy-part : PartOf file 1 busyPart
 unfolding numbered nthOr
-busy-part = record { parts = planPart busy ∷ []; readable = parts-answered-iff file (planPart busy ∷ []) .0 (ap numbered file-reads); from = omega arith; to = omega arith; is = refl }
+busy-part = record { parts = busyPart ∷ []; readable = parts-answered-iff file (busyPart ∷ []) .0 (ap numbered file-reads); from = omega arith; to = omega arith; is = refl }
 
 pub need-reached : (s : List ℕ) × (p : PlanPart) × PartOf s 1 p × (task : Task) × (above : List Task) × (task ∷ above ≡ p .numbers .tasks) × (task .cost + demandIn above numberLimit ≡ greatestNeed numberLimit)
-need-reached = (file, planPart busy, busy-part, alike 1000000, replicate 15 (alike 999999), busy-tasks, busy-need)
+need-reached = (file, busyPart, busy-part, alike 1000000, replicate 15 (alike 999999), busy-tasks, busy-need)
 
 pub supply-reached : (roundOf (numberLimit - 1) (numberLimit - 1) numberLimit + 1) * (numberLimit - 1) ≡ 3 * (numberLimit - 1)
 unfolding roundOf ceilDiv

@@ -1,24 +1,27 @@
--- The array of tasks that the reader fills: one more task and one more lock are one store each, and of the part that is closed it holds the tasks.
+-- The array of tasks that the reader fills: one more task and one more lock are one store each, and of the part that is closed it holds the tasks. No
+-- lock of this part is marked yet.
 -- Assumes nothing.
 use Prim.Native.Nat.{ℕ, zero, suc, _-_, _≤_, _<_}
 use native.Mathlib.Omega.{arith}
 use mathlib.Core.Path.{_≡_, sym, ap, ap₂, _∙_}
+use mathlib.Core.Bool.{Bool, false}
 use mathlib.Core.List.{List, [], _∷_, _++_, map, map-append, map-map, dropLast}
 use lib.ListN.{length, set, take, getD, length-map, length-append}
 use lib.Seq.{set-at}
 use Rattle.least.specs.Lists.{pad, onLast}
 use Rattle.least.proofs.Lists.{map-same}
-use Rattle.least.proofs.Pad.{set-pad, set-pad-within, take-pad}
+use Rattle.least.proofs.Pad.{set-pad, set-pad-within, take-pad, pad-fillers}
 use Rattle.least.proofs.Last.{last-split, on-last-split, length-drop-last, drop-last-member}
 use Rattle.text.specs.Bytes.{mention}
 use Rattle.task_set.specs.declared.Task.{Task}
 use Rattle.task_set.specs.Code.Tasks.{withLocks, tasksOf}
 use Rattle.plan_file.specs.Above.{FileLock, FileTask, FilePart, noTask, lockNames, withLock, withTasks}
-use Rattle.plan_file.specs.Numbers.{taskIn, tasksIn}
+use Rattle.plan_file.specs.Numbers.{taskIn, tasksIn, isSharedIn}
 use Rattle.plan_file.specs.Code.Entries.{noTaskRead}
 use Rattle.plan_file.proofs.SeenLocks.{lock-unmentioned, lock-names-task, lock-names-lock}
 use Rattle.plan_file.proofs.SeenTasks.{heldBy, taskWith, padded, padded-new, padded-mention}
 use Rattle.plan_file.proofs.SeenPart.{lastTask}
+use Rattle.plan_file.proofs.Sharing.{alone-private}
 
 module _ {A : Type 0} (k : ℕ) (z : A) (xs : List A) (n : ℕ) (count : length xs ≡ n) where
   add-at : (x : A) → n < k → set (pad k z xs) n x ≡ pad k z (xs ++ (x ∷ []))
@@ -84,9 +87,15 @@ module _ (p : FilePart) where
   unfolding padded taskIn
   used-places m t e h = ap (taskWith t) (take-at 8 0 (map (heldBy t) (lockNames p)) m (length-map (lockNames p) (heldBy t) ∙ e) h)
 
-  pub tasks-closed : (P n m : ℕ) → length (p .tasks) ≡ n → length (lockNames p) ≡ m → n ≤ 16 → m ≤ 8 → tasksOf (record { period = P; tasks = arrayOf p; count = n; locks = m }) ≡ tasksIn p
+  pub tasks-closed : (P n m : ℕ) (marks : List Bool) → length (p .tasks) ≡ n → length (lockNames p) ≡ m → n ≤ 16 → m ≤ 8 → tasksOf (record { period = P; tasks = arrayOf p; count = n; locks = m; shared = marks }) ≡ tasksIn p
   unfolding tasksOf tasksIn
-  tasks-closed P n m e f h k =
+  tasks-closed P n m marks e f h k =
       ap (map (withLocks m)) (take-at 16 noTaskRead (map read (p .tasks)) n (length-map (p .tasks) read ∙ e) h)
       ∙ map-map (withLocks m) read (p .tasks)
       ∙ map-same (λ t. withLocks m (read t)) (taskIn (lockNames p)) (p .tasks) (λ t q. used-places m t f k)
+
+  -- no lock is marked, as none is shared in a file of this part alone
+  pub none-marked : (m : ℕ) → length (lockNames p) ≡ m → m ≤ 8 → take m (pad 8 false []) ≡ map (isSharedIn (p ∷ [])) (lockNames p)
+  none-marked m e h =
+      let test = isSharedIn (p ∷ []) in
+      ap (take m) (sym (pad-fillers test 8 false (lockNames p) (alone-private p))) ∙ take-at 8 false (map test (lockNames p)) m (length-map (lockNames p) test ∙ e) h

@@ -13,8 +13,7 @@ use Rattle.refusal.specs.declared.Outcome.{Outcome}
 use Rattle.refusal.specs.declared.Outcome.the-variants.{Done, Refused}
 use Rattle.refusal.specs.Questions.{whenDone}
 use Rattle.refusal.specs.Questions.Answer.{answered, refused}
-use Rattle.plan_file.specs.Above.{noPart}
-use Rattle.plan_file.specs.Numbers.{planPart, partsOf, partAt}
+use Rattle.plan_file.specs.Numbers.{noPlanPart, partsOf, partAt}
 use Rattle.reader.specs.declared.PartRead.{PartRead}
 use Rattle.reader.specs.declared.PlanFile.{PlanFile}
 use Rattle.reader.specs.Code.Reader.{partOf, partsIn, fileOf, ReadIs}
@@ -40,4 +39,4 @@ pub part-number : (s : List ℕ) (f : PlanFile) → ReadIs s f → (k : ℕ) (d 
 part-number s f is zero d a b = absurd (omega arith)
 part-number s f is (suc j) d a b =
     let e : suc j - 1 ≡ j = omega arith in
-    rw e (nth-get (planPart noPart) j (partsIn s f) ∙ getD-any (partsIn s f) j (planPart noPart) (partOf s d) (omega (arith, parts-count s f is)) ∙ part-at s f j d (omega arith))
+    rw e (nth-get noPlanPart j (partsIn s f) ∙ getD-any (partsIn s f) j noPlanPart (partOf s d) (omega (arith, parts-count s f is)) ∙ part-at s f j d (omega arith))

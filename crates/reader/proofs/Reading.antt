@@ -5,13 +5,14 @@ use native.Mathlib.Omega.{arith}
 use mathlib.Core.Path.{_≡_, refl, sym, ap, ap₂, _∙_, subst}
 use mathlib.Core.Bool.{true, false, cond}
 use mathlib.Core.List.{List, [], map}
-use lib.ListN.{length, take, drop, drop-of-length-le}
+use lib.ListN.{length, take, drop, getD, drop-of-length-le}
 use Rattle.least.specs.Lists.{pad}
+use Rattle.least.proofs.Members.{getD-any}
 use Rattle.refusal.specs.declared.Refusal.{Refusal}
 use Rattle.refusal.specs.declared.Refusal.the-variants.{FileTooLong, BadLine, Misplaced}
-use Rattle.refusal.specs.declared.Outcome.the-variants.{Done, Refused}
+use Rattle.refusal.specs.declared.Outcome.the-variants.{Refused}
 use Rattle.refusal.specs.Limits.{fileLimit}
-use Rattle.refusal.specs.Questions.{ask, firstNo, Answer, whenDone}
+use Rattle.refusal.specs.Questions.{ask, firstNo, whenDone}
 use Rattle.refusal.specs.Questions.Answer.{answered, refused}
 use Rattle.refusal.proofs.Questions.{yes-next, no-answers}
 use Rattle.stretch.specs.declared.Span.{Span}
@@ -24,7 +25,7 @@ use Rattle.records.specs.Records.{Record, recordIn}
 use Rattle.records.specs.Code.Cursor.{recordAs, RecordIs, BrokenIs}
 use Rattle.plan_file.specs.declared.Seen.{Seen}
 use Rattle.plan_file.specs.declared.Entry.the-variants.{Refused as RefusedEntry}
-use Rattle.plan_file.specs.Above.{FilePart, Above, nothingAbove, after}
+use Rattle.plan_file.specs.Above.{Above, nothingAbove, after}
 use Rattle.plan_file.specs.Reading.{isEnd, recordQuestions, questionsAt, readLines, readFrom}
 use Rattle.plan_file.specs.Numbers.{numbered}
 use Rattle.plan_file.specs.Stretches.{noSpan, nameSpans}
@@ -33,8 +34,8 @@ use Rattle.plan_file.proofs.Reading.{read-next, read-stop, read-too-long, read-
 use Rattle.plan_file.proofs.SeenAbove.{seen-is-fine, part-count}
 use Rattle.plan_file.proofs.SeenEntered.{AllDone, refused-entered}
 use Rattle.reader.specs.declared.PartRead.{PartRead}
-use Rattle.reader.specs.Code.Reader.{partOf, fileOf, noPartRead, refusedFile}
-use Rattle.reader.proofs.Stands.{Stands, stands-start}
+use Rattle.reader.specs.Code.Reader.{partOf, fileOf, FineCounts, noPartRead, blankPart, refusedFile}
+use Rattle.reader.proofs.Stands.{partAlone, Stands, stands-start}
 use Rattle.reader.proofs.Spans.{Spanned, spanned-start, spanned-all}
 
 pub record Reading (n : ℕ) (s : List ℕ) (c : Cursor) (seen : Seen) (opened : ℕ) (name : Span) (period : ℕ) (tasks : List Task) (all : List PartRead) : Type 0 where
@@ -93,13 +94,13 @@ module _ {n : ℕ} (s : List ℕ) (c : Cursor) (seen : Seen) (opened : ℕ) (nam
   pub reading-fine : FineSeen seen
   reading-fine = seen-is-fine s seen a (reading .stands .seen-is)
 
-  -- what the rest is, the file is
-  ends : (x : Answer (List FilePart)) → readLines (c .line) a (linesOf (drop (c .at) s)) ≡ x → numbered x ≡ numbered (readFrom n s)
-  ends x e = ap numbered (sym (reading .reads ∙ e))
+  pub reading-counts : (k : ℕ) → k < seen .parts .count → FineCounts (getD all k blankPart)
+  reading-counts k h = subst FineCounts (getD-any all k noPartRead blankPart (omega (arith, reading .stands .room, reading-fine .parts .few))) (reading .stands .counts k)
 
+  -- where the rest is refused, the file is
   ends-refused : (x : Refusal) → readLines (c .line) a (linesOf (drop (c .at) s)) ≡ refused x → refused x ≡ numbered (readFrom n s)
   unfolding numbered
-  ends-refused x e = ends (refused x) e
+  ends-refused x e = ap numbered (sym (reading .reads ∙ e))
 
   pub reading-refused : (r : Shape) (next : Cursor) → RecordIs s c r next → (x : Refusal) → entryOf s (c .line) seen r ≡ RefusedEntry x → refused x ≡ numbered (readFrom n s)
   reading-refused r next at x e =
@@ -120,13 +121,16 @@ module _ {n : ℕ} (s : List ℕ) (c : Cursor) (seen : Seen) (opened : ℕ) (nam
       let not-end : isEnd (a .directly) ≡ false = sym (reading .stands .seen-is .ended) ∙ e in
       ends-refused (Misplaced (c .line)) (none-left h ∙ simp not-end)
 
-  pub reading-done : length s ≤ c .at → seen .ended ≡ true → fileOf s (record { outcome = Done; parts = all; count = seen .parts .count }) ≡ numbered (readFrom n s)
-  unfolding fileOf whenDone numbered
-  reading-done h e =
+  -- all is read
+  pub reading-answered : length s ≤ c .at → seen .ended ≡ true → readFrom n s ≡ answered (a .parts)
+  reading-answered h e =
       let at-end : isEnd (a .directly) ≡ true = sym (reading .stands .seen-is .ended) ∙ e in
-      ap (λ (n : ℕ). answered (map (partOf s) (take n all))) (sym (part-count s seen a (reading .stands .seen-is)))
-      ∙ ap answered (reading .stands .complete at-end)
-      ∙ ends (answered (a .parts)) (none-left h ∙ simp at-end)
+      reading .reads ∙ none-left h ∙ simp at-end
+
+  pub reading-parts : seen .ended ≡ true → map (partOf s) (take (seen .parts .count) all) ≡ map partAlone (a .parts)
+  reading-parts e =
+      ap (λ (m : ℕ). map (partOf s) (take m all)) (sym (part-count s seen a (reading .stands .seen-is)))
+      ∙ reading .stands .complete (sym (reading .stands .seen-is .ended) ∙ e)
 
   -- where the names stand
   pub reading-spans : length s ≤ c .at → seen .ended ≡ true → map (λ p. p .name) (take (seen .parts .count) all) ≡ nameSpans s

@@ -1,5 +1,6 @@
 -- What the reader's locals say of the lines above: what it has seen, the name, the period and the tasks of the last part, and the parts before it.
 -- Each record that is entered keeps it so.
+--   partAlone p == the part p as it would be in a file by itself
 -- Assumes nothing.
 use Prim.Native.Nat.{ℕ, suc, _-_, _≤_, _<_}
 use native.Mathlib.Omega.{arith}
@@ -20,7 +21,7 @@ use Rattle.task_set.specs.Code.Tasks.{tasksOf}
 use Rattle.records.specs.Records.Record.{part, task, lock, end}
 use Rattle.plan_file.specs.declared.Seen.{Seen}
 use Rattle.plan_file.specs.Above.{FileLock, FileTask, FilePart, Above, noPart, nothingAbove, thisPart, thisTask, lockNames, withLock, withTasks, partsAfter, after}
-use Rattle.plan_file.specs.Numbers.{PlanPart, tasksIn, planPart}
+use Rattle.plan_file.specs.Numbers.{PlanPart, tasksIn, isSharedIn, planPart}
 use Rattle.plan_file.specs.Reading.{isEnd, locksOf}
 use Rattle.plan_file.specs.Stretches.{noSpan}
 use Rattle.plan_file.specs.Code.Entries.{noTaskRead, noneSeen, namesOf, placeAmong, seenPart, seenTask, seenLock, seenEnd}
@@ -30,7 +31,10 @@ use Rattle.plan_file.proofs.SeenPart.{storedUse, task-count, lock-count, task-a
 use Rattle.plan_file.proofs.SeenAbove.{SeenIs, part-count, taskOf, lockOf, this-part-part, this-part-task, this-part-lock, seen-is-start, seen-is-part, seen-is-task, seen-is-lock, seen-is-end}
 use Rattle.reader.specs.declared.PartRead.{PartRead}
 use Rattle.reader.specs.Code.Reader.{partOf, FineCounts, closedPart, noPartRead}
-use Rattle.reader.proofs.Arrays.{set-each, arrayOf, array-task, array-lock, tasks-closed}
+use Rattle.reader.proofs.Arrays.{set-each, arrayOf, array-task, array-lock, tasks-closed, none-marked}
+
+abbrev pub partAlone : FilePart → PlanPart
+partAlone p = planPart (p ∷ []) p
 
 -- the last part
 pub record Holds (s : List ℕ) (name : Span) (period : ℕ) (tasks : List Task) (p : FilePart) : Type 0 where
@@ -43,9 +47,9 @@ pub record Stands (s : List ℕ) (seen : Seen) (opened : ℕ) (name : Span) (per
   pub last : Holds s name period tasks (thisPart a)
   pub open-is : opened ≡ length (a .parts) - 1
   pub room : length all ≡ 16
-  pub closed : map (partOf s) (take opened all) ≡ map planPart (dropLast (a .parts))
+  pub closed : map (partOf s) (take opened all) ≡ map partAlone (dropLast (a .parts))
   pub counts : (k : ℕ) → FineCounts (getD all k noPartRead)
-  pub complete : isEnd (a .directly) ≡ true → map (partOf s) (take (length (a .parts)) all) ≡ map planPart (a .parts)
+  pub complete : isEnd (a .directly) ≡ true → map (partOf s) (take (length (a .parts)) all) ≡ map partAlone (a .parts)
 
 none-counted : FineCounts noPartRead
 unfolding closedPart
@@ -80,15 +84,18 @@ module _ (s : List ℕ) (seen : Seen) (opened : ℕ) (name : Span) (period : ℕ
   open-small = omega (arith, parts-are, stands .open-is, stands .seen-is .fine-parts .few)
 
   -- the last part as it is handed on
-  tasks-read : tasksOf (record { period = period; tasks = tasks; count = seen .tasks .count; locks = seen .locks .count }) ≡ tasksIn (thisPart a)
+  tasks-read : tasksOf (record { period = period; tasks = tasks; count = seen .tasks .count; locks = seen .locks .count; shared = pad 8 false [] }) ≡ tasksIn (thisPart a)
   tasks-read =
-      ap (λ (ts : List Task). tasksOf (record { period = period; tasks = ts; count = seen .tasks .count; locks = seen .locks .count })) (stands .last .tasks-are)
-      ∙ tasks-closed (thisPart a) period (seen .tasks .count) (seen .locks .count) tasks-count locks-count (stands .seen-is .part .fine-tasks .few) (stands .seen-is .part .few-locks)
+      ap (λ (ts : List Task). tasksOf (record { period = period; tasks = ts; count = seen .tasks .count; locks = seen .locks .count; shared = pad 8 false [] })) (stands .last .tasks-are)
+      ∙ tasks-closed (thisPart a) period (seen .tasks .count) (seen .locks .count) (pad 8 false []) tasks-count locks-count (stands .seen-is .part .fine-tasks .few) (stands .seen-is .part .few-locks)
 
-  last-read : partOf s lastRead ≡ planPart (thisPart a)
+  marks-read : take (seen .locks .count) (pad 8 false []) ≡ map (isSharedIn (thisPart a ∷ [])) (lockNames (thisPart a))
+  marks-read = none-marked (thisPart a) (seen .locks .count) locks-count (stands .seen-is .part .few-locks)
+
+  last-read : partOf s lastRead ≡ partAlone (thisPart a)
   unfolding partOf closedPart
   last-read =
-      λ i. record { name = stands .last .called i; locks = stands .seen-is .part .lock-names i; numbers = record { period = stands .last .period-is i; tasks = tasks-read i; locks = sym locks-count i } }
+      λ i. record { name = stands .last .called i; locks = stands .seen-is .part .lock-names i; numbers = record { period = stands .last .period-is i; tasks = tasks-read i; locks = sym locks-count i; shared = marks-read i } }
 
   last-counted : FineCounts lastRead
   unfolding closedPart
@@ -100,19 +107,19 @@ module _ (s : List ℕ) (seen : Seen) (opened : ℕ) (name : Span) (period : ℕ
   all-counted : (k : ℕ) → FineCounts (getD (set all opened lastRead) k noPartRead)
   all-counted = set-each FineCounts noPartRead all opened lastRead (stands .counts) last-counted
 
-  some-read : 1 ≤ length (a .parts) → map (partOf s) (take (length (a .parts)) (set all opened lastRead)) ≡ map planPart (a .parts)
+  some-read : 1 ≤ length (a .parts) → map (partOf s) (take (length (a .parts)) (set all opened lastRead)) ≡ map partAlone (a .parts)
   some-read h =
       let n : length (a .parts) ≡ suc opened = omega (arith, stands .open-is) in
       rw (n, take-suc-set all opened lastRead (omega (arith, open-small, stands .room)), map-append (partOf s))
       (ap₂ (λ (xs : List PlanPart) (x : PlanPart). xs ++ (x ∷ [])) (stands .closed) last-read
-      ∙ sym (map-append planPart (dropLast (a .parts)) (thisPart a ∷ []))
-      ∙ ap (map planPart) (sym (last-split noPart (a .parts) h)))
+      ∙ sym (map-append partAlone (dropLast (a .parts)) (thisPart a ∷ []))
+      ∙ ap (map partAlone) (sym (last-split noPart (a .parts) h)))
 
   -- with the last part stored, all parts are there
-  all-read : map (partOf s) (take (length (a .parts)) (set all opened lastRead)) ≡ map planPart (a .parts)
+  all-read : map (partOf s) (take (length (a .parts)) (set all opened lastRead)) ≡ map partAlone (a .parts)
   all-read = go (a .parts) refl
     where
-      go : (ps : List FilePart) → a .parts ≡ ps → map (partOf s) (take (length (a .parts)) (set all opened lastRead)) ≡ map planPart (a .parts)
+      go : (ps : List FilePart) → a .parts ≡ ps → map (partOf s) (take (length (a .parts)) (set all opened lastRead)) ≡ map partAlone (a .parts)
       go [] h = rw h
       go (p ∷ ps) h = some-read (rw h (omega arith))
 

@@ -1,8 +1,9 @@
-// The reader of a plan file: questions 1 to 9, line by line.
+// The reader of a plan file: questions 1 to 9, line by line, then which locks are shared.
 use plan_file::Entry;
 use plan_file::Names;
 use records::Cursor;
 use records::Next;
+use refusal::CEILING_PLACES;
 use refusal::FILE_LIMIT;
 use refusal::Outcome;
 use refusal::Refusal;
@@ -28,7 +29,7 @@ pub struct PlanFile {
     pub count: usize,
 }
 
-// A part with all that was read of it.
+// A part with all that was read of it. Whether another part names its locks is not known before the last line.
 fn closed_part(name: Span, period: u64, tasks: [Task; 16], count: usize, locks: Names) -> PartRead
     ensures { λ r. ⌜ r ≡ closedPart name period tasks count locks ⌝ }
 {
@@ -39,6 +40,7 @@ fn closed_part(name: Span, period: u64, tasks: [Task; 16], count: usize, locks: 
             tasks,
             count,
             locks: locks.count,
+            shared: [false; 8],
         },
         locks,
     }
@@ -73,7 +75,7 @@ fn held_at(task: Task, j: usize, c: u64) -> Task
     t
 }
 
-// A file whose first line has this number.
+// A file whose first line has this number: its lines are read, then the locks of its parts are marked.
 pub fn read_file(s: &[u8], first: u64) -> PlanFile
     requires { ⌜ first < 2 ^ 62 ⌝ }
     ensures { λ r. ⌜ ReadFromIs first (now (s .entry)) r ⌝ }
@@ -95,11 +97,7 @@ pub fn read_file(s: &[u8], first: u64) -> PlanFile
         match c.next(s) {
             Next::Over => {
                 if seen.ended {
-                    return PlanFile {
-                        outcome: Outcome::Done,
-                        parts: all,
-                        count: seen.parts.count,
-                    };
+                    break;
                 }
                 return refused_file(Refusal::Misplaced(line));
             }
@@ -151,5 +149,29 @@ pub fn read_file(s: &[u8], first: u64) -> PlanFile
                 }
             }
         }
+    }
+    let n = seen.parts.count;
+    let mut codes = [0u64; CEILING_PLACES];
+    let mut k = 0;
+    while k < n {
+        let p = all[k];
+        let names = p.locks;
+        sharing::put_codes(s, names, k, &mut codes);
+        k += 1;
+    }
+    k = 0;
+    while k < n {
+        let marks = sharing::marks_at(&codes, n, k);
+        let mut p = all[k];
+        let mut part = p.part;
+        part.shared = marks;
+        p.part = part;
+        all[k] = p;
+        k += 1;
+    }
+    PlanFile {
+        outcome: Outcome::Done,
+        parts: all,
+        count: n,
     }
 }

@@ -1,8 +1,9 @@
--- The tasks of the struct `Part` by their places.
+-- The tasks and locks of the struct `Part` by their places.
 -- Assumes nothing.
 use Prim.Native.Nat.{ℕ, zero, suc, _≤_, _<_}
 use native.Mathlib.Omega.{arith}
 use mathlib.Core.Path.{_≡_, refl, sym, ap, _∙_}
+use mathlib.Core.Bool.{false}
 use mathlib.Core.List.{List, [], _∷_, map, List·Memᴰ}
 use lib.ListN.{length, take, drop, getD, length-take, length-map, drop-of-length-le, List·getD-map}
 use lib.Seq.{drop-cons, getD-take, length-take-le, take-take}
@@ -12,6 +13,8 @@ use Rattle.task_set.specs.declared.Task.{Task}
 use Rattle.task_set.specs.declared.Part.{Part}
 use Rattle.task_set.specs.Tasks.{heldFor}
 use Rattle.task_set.specs.Code.Tasks.{withLocks, tasksOf}
+use Rattle.task_set.specs.Partition.{isShared}
+use Rattle.task_set.specs.Code.Partition.{partitionOf}
 use Rattle.task_set.specs.Code.Fine.{blankTask, FinePart}
 
 drop-map : {A B : Type 0} (f : A → B) (k : ℕ) (l : List A) → drop k (map f l) ≡ map f (drop k l)
@@ -61,3 +64,8 @@ module _ (p : Part) (fine : FinePart p) where
   unfolding heldFor
   held-at zero a b t = absurd (omega arith)
   held-at (suc j) a b t = nth-get 0 j (take (p .locks) (t .uses)) ∙ getD-take (p .locks) (t .uses) j 0 (omega arith) ∙ sym (nth-get 0 j (t .uses))
+
+-- the lock at the place j
+pub shared-at : (p : Part) (j : ℕ) → j < p .locks → isShared (partitionOf p) (suc j) ≡ getD (p .shared) j false
+unfolding isShared
+shared-at p j h = nth-get false j (take (p .locks) (p .shared)) ∙ getD-take (p .locks) (p .shared) j false h

@@ -16,12 +16,14 @@ pub struct Task {
     pub uses: [u64; 8],
 }
 
-// A part: its server period, its tasks, lowest priority first, and the number of its locks.
+// A part: its server period, its tasks, lowest priority first, the number of its locks, and for each of them whether it is shared: another part of the file names
+// it too.
 pub struct Part {
     pub period: u64,
     pub tasks: [Task; 16],
     pub count: usize,
     pub locks: usize,
+    pub shared: [bool; 8],
 }
 
 // The times of a part's tasks by columns: arrays can be lent to a loop, a struct would be copied.

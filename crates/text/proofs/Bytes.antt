@@ -1,15 +1,16 @@
 -- Lines and fields are the file and the line, cut at each byte 10 and at each byte 9: put together again they give the same bytes,
--- and no line has a byte 10, no field a byte 9. Two lists of bytes pass the test `same` exactly if they are equal.
+-- and no line has a byte 10, no field a byte 9. Two lists of bytes pass the test `same` exactly if they are equal, and a list passes `among` exactly if it is one of the others.
 -- Assumes nothing.
 use Prim.Native.Nat.{ℕ}
-use mathlib.Core.Path.{_≡_, refl, sym, ap, ap₂, _∙_}
+use mathlib.Core.Path.{_≡_, refl, sym, ap, ap₂, subst, _∙_}
 use mathlib.Core.Bool.{Bool, true, false, cond, not, false≢true}
-use mathlib.Core.List.{List, [], _∷_, _++_, map}
+use mathlib.Core.Logic.{_↔_}
+use mathlib.Core.List.{List, [], _∷_, _++_, map, List·Memᴰ}
 use borrow.Author.Tests.{eqb-true, eq-eqb}
 use lib.Dec.{eqb}
 use Rattle.least.specs.Lists.{every, joined}
-use Rattle.least.proofs.Lists.{every-pass, every-fail, every-none}
-use Rattle.text.specs.Bytes.{same, Line, intoLine, linesOf, intoField, fieldsOf, lineOf}
+use Rattle.least.proofs.Lists.{every-pass, every-fail, every-none, some-iff}
+use Rattle.text.specs.Bytes.{same, among, Line, intoLine, linesOf, intoField, fieldsOf, lineOf}
 
 -- the bytes that a line takes up in its file
 abbrev pub lineBytes : Line → List ℕ
@@ -136,3 +137,11 @@ same-true (x ∷ xs) (y ∷ ys) e = go (eqb x y) refl (same-true xs ys)
     go : (t : Bool) → eqb x y ≡ t → (same xs ys ≡ true → xs ≡ ys) → x ∷ xs ≡ y ∷ ys
     go true h ih = ap₂ (λ (a : ℕ) (l : List ℕ). a ∷ l) (eqb-true x y h) (ih (simp h at e))
     go false h ih = let z : false ≡ true = simp h at e in absurd (false≢true z)
+
+-- a name is among others just if it is one of them
+pub among-iff : (name : List ℕ) (names : List (List ℕ)) → (among name names ≡ true) ↔ List·Memᴰ name names
+unfolding among
+among-iff name names = (
+  (λ e. let h = some-iff (same name) names .0 e in subst (λ (n : List ℕ). List·Memᴰ n names) (sym (same-true name (h .0) (h .2))) (h .1)),
+  (λ m. some-iff (same name) names .1 (name, m, same-refl name)),
+)

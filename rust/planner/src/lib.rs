@@ -8,10 +8,16 @@
 //! ```
 //! let file = b"part\tcard\t20\ntask\tcopy\t80\t8\t80\nlock\tbuf\t2\nend\n";
 //! let listing = planner::plan(file)?;
-//! assert_eq!(listing, "load\tcard\t5\t20\nshare\tcard\t20\t3\t2\t5\t20\nceiling\tbuf\t1\n");
+//! assert_eq!(listing, "load\tcard\t3\t20\nshare\tcard\t20\t3\t0\t3\t20\nceiling\tbuf\t1\n");
 //! assert_eq!(planner::name(file, 1)?, "card");
 //! # Ok::<(), planner::Refusal>(())
 //! ```
+//!
+//! # Private and shared locks
+//!
+//! A lock that two parts or more of a file name is shared. One that just one part names, as `buf`
+//! above, is private: it always has its lowest ceiling, the number of its highest user, and does
+//! not enter the part's holding time, which is 0 without shared locks.
 //!
 //! # The archive
 //!
@@ -47,11 +53,11 @@ pub const MOST_ROWS: usize = 16;
 pub const ROOM: usize = 8192;
 
 /// Bytes of stack that [`plan_into`] needs; [`plan`] has its listing on the heap.
-pub const STACK_PLAN: usize = 152 * 1024;
+pub const STACK_PLAN: usize = 153 * 1024;
 /// Bytes of stack that [`candidates`] needs.
-pub const STACK_CANDIDATES: usize = 66 * 1024;
+pub const STACK_CANDIDATES: usize = 68 * 1024;
 /// Bytes of stack that [`name`] needs.
-pub const STACK_NAME: usize = 58 * 1024;
+pub const STACK_NAME: usize = 60 * 1024;
 /// Bytes of stack that [`weigh`] needs.
 pub const STACK_WEIGH: usize = 4 * 1024;
 /// Bytes of stack that [`supply`] needs.
@@ -153,13 +159,20 @@ pub fn plan_into<'a>(file: &[u8], out: &'a mut [u8]) -> Result<&'a mut [u8], Ref
 }
 
 /// The kept list of a part, counted from 1: its budgets and holding times that are worth a choice, in
-/// falling holding time. Refusals 1 to 9, then 12 (no such part), then 10.
+/// falling holding time. It depends on the part's own lines and on which of its locks another part
+/// names: private locks do not enter a holding time. Refusals 1 to 9, then 12 (no such part), then
+/// 10.
 ///
 /// ```
-/// let file = b"part\tcard\t20\ntask\tcopy\t80\t8\t80\nlock\tbuf\t2\nend\n";
-/// let kept = planner::candidates(file, 1)?;
-/// assert_eq!(kept, [planner::Pair { budget: 3, holding: 2 }]);
-/// assert_eq!(planner::candidates(file, 2).unwrap_err().number, 12);
+/// use planner::{candidates, Pair};
+///
+/// let card = "part\tcard\t20\ntask\tcopy\t80\t8\t80\nlock\tbuf\t2\n";
+/// let log = "part\tlog\t20\ntask\tkeep\t80\t1\t80\nlock\tbuf\t1\n";
+/// let shared = format!("{card}{log}end\n");
+/// assert_eq!(candidates(shared.as_bytes(), 1)?, [Pair { budget: 3, holding: 2 }]);
+/// let private = format!("{card}end\n");
+/// assert_eq!(candidates(private.as_bytes(), 1)?, [Pair { budget: 3, holding: 0 }]);
+/// assert_eq!(candidates(private.as_bytes(), 2).unwrap_err().number, 12);
 /// # Ok::<(), planner::Refusal>(())
 /// ```
 pub fn candidates(file: &[u8], part: usize) -> Result<Vec<Pair>, Refusal> {

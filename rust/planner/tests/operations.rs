@@ -69,7 +69,8 @@ fn a_kept_list_has_its_pairs_in_order() {
     let file = b"part\ts\t250\n\
         task\tt1\t1500\t16\t1500\nlock\tr2\t8\ntask\tt2\t1300\t100\t1300\nlock\tr1\t10\n\
         task\tt3\t1200\t20\t1200\ntask\tt4\t1000\t70\t1000\nlock\tr1\t20\n\
-        task\tt5\t320\t2\t320\ntask\tt6\t300\t4\t300\nend\n";
+        task\tt5\t320\t2\t320\ntask\tt6\t300\t4\t300\n\
+        part\to\t250\ntask\tu\t1000\t1\t1000\nlock\tr1\t1\nlock\tr2\t1\nend\n";
     let pairs = [(102, 26), (105, 24), (112, 20)];
     let kept = pairs.map(|(budget, holding)| Pair { budget, holding });
     assert_eq!(candidates(file, 1), Ok(kept.to_vec()));

@@ -55,9 +55,13 @@ fn change_parts(random: &mut Random, sketch: &mut Sketch) {
 }
 
 fn change_part(random: &mut Random, part: &mut Part) {
-    let Part { period, tasks } = part;
+    let Part {
+        period,
+        names,
+        tasks,
+    } = part;
     let (one, other) = (random.index(tasks.len()), random.index(tasks.len()));
-    match random.index(12) {
+    match random.index(13) {
         0..=2 => {
             let latest = tasks[one].deadline == tasks[one].separation;
             tasks[one].separation = near(random, tasks[one].separation);
@@ -79,6 +83,13 @@ fn change_part(random: &mut Random, part: &mut Part) {
         }
         8 => tasks.swap(one, other),
         9 | 10 => take_the_rest(random, tasks, one),
+        11 => {
+            // Another part has that name too, or none.
+            let name = random.index(MOST_PARTS * MOST_LOCKS);
+            if !names.contains(&name) {
+                names[random.index(MOST_LOCKS)] = name;
+            }
+        }
         _ => {
             let (times, by) = [(2, 1), (1, 2), (3, 2), (11, 10)][random.index(4)];
             let separations = random.once_in(2);

@@ -182,7 +182,7 @@ fn part(random: &mut Random) -> Part {
         4 => random.of_any_size(1..=1000),
         _ => random.of_any_size(1..=LARGEST_NUMBER),
     };
-    Part { period, tasks }
+    Part::new(period, tasks)
 }
 
 /// Parts with short periods above many with long ones.
@@ -242,7 +242,7 @@ pub fn row(random: &mut Random, period: u64, budget: u64, holding: u64) -> Part 
             tasks.push(task);
         }
     }
-    Part { period, tasks }
+    Part::new(period, tasks)
 }
 
 fn extreme(random: &mut Random) -> Sketch {

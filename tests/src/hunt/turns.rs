@@ -120,7 +120,7 @@ pub fn start(random: &mut Random) -> Sketch {
     tasks.extend((0..rare).map(|_| Task::new(LARGEST_NUMBER, 1)));
     tasks.extend(column.tasks.iter().map(|&(t, c)| Task::new(t, c)));
     let period = random.within(1..=2);
-    Sketch::repeated(&Part { period, tasks }, MOST_PARTS)
+    Sketch::repeated(&Part::new(period, tasks), MOST_PARTS)
 }
 
 /// Columns that are tried before the slowest of them is changed.

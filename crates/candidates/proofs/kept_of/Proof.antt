@@ -15,11 +15,11 @@ use Rattle.candidates.proofs.kept_of.Statement.{statement}
 use Rattle.candidates.proofs.kept_of.Tie as tie
 
 abbrev Inv-loop : tie.InvT-loop
-Inv-loop part separations costs deadlines longest limits below ceilings₀ times₀ blocked₀ budget₀ budgets₀ holdings₀ count₀ x₀ ceilings times blocked budget budgets holdings count x =
+Inv-loop part separations costs deadlines longest limits below times₀ ceilings₀ blocked₀ budget₀ budgets₀ holdings₀ count₀ x₀ times ceilings blocked budget budgets holdings count x =
     Searching part (record { separations = separations; costs = costs; deadlines = deadlines }) ceilings times blocked budget budgets holdings count x
 
 abbrev μ-loop : tie.MeasureT-loop
-μ-loop part separations costs deadlines longest limits below ceilings₀ times₀ blocked₀ budget₀ budgets₀ holdings₀ count₀ x₀ ceilings times blocked budget budgets holdings count x = x
+μ-loop part separations costs deadlines longest limits below times₀ ceilings₀ blocked₀ budget₀ budgets₀ holdings₀ count₀ x₀ times ceilings blocked budget budgets holdings count x = x
 
 -- what stands before the loop: the part, the columns of its tasks and of its locks, and the table of the longest uses
 abbrev part : tie.After-longest-below Inv-loop μ-loop → Part
@@ -48,7 +48,7 @@ ready c =
 
 -- the place behind `raise`, seen from the later ones
 abbrev before-loop : tie.After-raise Inv-loop μ-loop → tie.After-longest-below Inv-loop μ-loop
-before-loop c = c .before .before .before .before .before .before .before
+before-loop c = c .before .before .before .before .before .before .before .before .before .before
 
 abbrev raise-of : tie.After-budget-under Inv-loop μ-loop → tie.After-raise Inv-loop μ-loop
 raise-of c = c .before .before .before .before .before .before .before .before .before .before
@@ -72,12 +72,15 @@ locks-of-requires c κs = c .before .before .before .before .pre .0
 longest-below-requires : tie.Need-longest-below-requires Inv-loop μ-loop
 longest-below-requires c κs = tt
 
+first-times-requires : tie.Need-first-times-requires Inv-loop μ-loop
+first-times-requires c κs = tt
+
 loop-holds : tie.Need-loop-holds Inv-loop μ-loop
-loop-holds c = let d = c .before in searching-start (part d) (columns d) (locks d) (table d) (ready d) (numberLimit + 1) (omega arith)
+loop-holds c = let d = c .before .before .before .before in searching-start (part d) (columns d) (locks d) (table d) (ready d) (c .before .first-times .result) (c .before .first-times .ensures) (numberLimit + 1) (omega arith)
 
 raise-requires : tie.Need-raise-requires Inv-loop μ-loop
 raise-requires c κs =
-    let d = c .before .before .before .before .before .before in
+    let d = c .before .before .before .before .before .before .before .before .before in
     let at = c .before .before .before .before .loop in
     (times-fine (part d) (columns d) (locks d) (table d) (ready d), locks-fine (part d) (columns d) (locks d) (table d) (ready d) (at .ceilings) (at .inv .ceilings-most))
 
@@ -198,6 +201,7 @@ kept-of-spec =
     columns-of-requires
     locks-of-requires
     longest-below-requires
+    first-times-requires
     loop-holds
     raise-requires
     kept-list-requires

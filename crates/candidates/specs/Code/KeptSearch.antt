@@ -1,4 +1,6 @@
 -- The search for the kept list, through falling x. Arrays hold the numbers of tasks and pairs by places, from 0.
+--   firstTime shared == the time of a lock before the search: past every limit where none is known yet, 0 where none counts
+--   FirstTimes shared times == the array holds these of eight locks
 --   budgetAgain P b tested task higher q == the least budget from q on; a blocking that was tested before asks for no more
 --   budgetDown step k q == the least budget from q on after the steps of the places k − 1, .., 0
 --   BudgetIs step blocking n q r == r holds that budget of n places, and the blocking of each task, which is then tested
@@ -15,12 +17,21 @@ use lib.ListN.{getD, drop}
 use Rattle.least.specs.declared.Least.{Least}
 use Rattle.least.specs.declared.Least.the-variants.{At, Nothing}
 use Rattle.least.specs.Lists.{countFrom, isEmpty}
+use Rattle.refusal.specs.Limits.{numberLimit, lockLimit}
 use Rattle.task_set.specs.declared.Task.{Task}
 use Rattle.task_set.specs.Partition.{Partition}
 use Rattle.budget.specs.Code.Passing.{dueTask, budgetFrom}
 use Rattle.candidates.specs.declared.Pair.{Pair}
 use Rattle.candidates.specs.declared.Budgeted.{Budgeted}
 use Rattle.candidates.specs.Candidates.{pair, keptList}
+
+-- locks
+
+abbrev pub firstTime : Bool → ℕ
+firstTime shared = cond shared (suc numberLimit) 0
+
+abbrev pub FirstTimes : List Bool → List ℕ → Type 0
+FirstTimes shared times = (j : ℕ) → j < lockLimit → getD times j 0 ≡ firstTime (getD shared j false)
 
 -- tasks
 

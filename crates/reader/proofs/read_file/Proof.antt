@@ -1,13 +1,13 @@
--- `reader::read_file` meets its contract. The invariant is `Reading`: what is left of the file decides, and the locals are what the lines above say.
+-- `reader::read_file` meets its contract. The first loop's invariant is `Reading`: what is left of the file decides, and the locals are what the lines above say.
+-- The second gathers the numbers of the lock names, the third marks the parts.
 -- Assumes nothing.
-use Prim.Native.Nat.{ℕ, _-_, _<_}
+use Prim.Native.Nat.{ℕ, _-_, _≤_, _<_}
 use mathlib.Core.Path.{_≡_, sym, subst, _∙_}
 use mathlib.Core.List.{List, []}
-use lib.ListN.{length}
+use lib.ListN.{length, getD}
 use native.Mathlib.Omega.{arith}
 use borrow.Author.Needs.{needs}
 use Rattle.least.specs.Lists.{pad}
-use Rattle.least.proofs.Members.{getD-any}
 use Rattle.least.proofs.Pad.{length-pad}
 use Rattle.refusal.specs.declared.Refusal.{Refusal}
 use Rattle.refusal.specs.declared.Refusal.the-variants.{FileTooLong, BadLine, Misplaced}
@@ -19,10 +19,12 @@ use Rattle.plan_file.specs.Reading.{readFrom}
 use Rattle.plan_file.specs.Numbers.{numbered}
 use Rattle.plan_file.specs.Stretches.{noSpan}
 use Rattle.plan_file.specs.Code.Entries.{noTaskRead, noneSeen, entryOf}
+use Rattle.sharing.proofs.Gathered.{Gathered, gathered-start, gathered-step}
 use Rattle.reader.specs.declared.PlanFile.{PlanFile}
 use Rattle.reader.specs.Code.Reader.{FineCounts, refusedFile, noPartRead, blankPart, ReadFromIs}
-use Rattle.reader.proofs.Reading.{Reading, reading-start, reading-too-long, refused-file, turn-shortens, reading-fine, reading-refused, reading-broken, reading-over, reading-done, reading-spans}
+use Rattle.reader.proofs.Reading.{Reading, reading-start, reading-too-long, refused-file, turn-shortens, reading-fine, reading-refused, reading-broken, reading-over, reading-counts}
 use Rattle.reader.proofs.Turns.{part-room, name-room, task-room, lock-room, reading-part, reading-task, reading-lock, reading-end}
+use Rattle.reader.proofs.Marking.{locksAt, Marking, marking-start, marking-step, reading-marked}
 use Rattle.reader.proofs.read_file.Statement.{statement}
 use Rattle.reader.proofs.read_file.Tie as tie
 
@@ -32,59 +34,85 @@ Inv-loop s first c₀ seen₀ no-one all₀ open₀ name₀ period₀ tasks₀ c
 abbrev μ-loop : tie.MeasureT-loop
 μ-loop s first c₀ seen₀ no-one all₀ open₀ name₀ period₀ tasks₀ c seen all «open» name period tasks = length s - c .at
 
+abbrev Inv-loop2 : tie.InvT-loop2
+Inv-loop2 s first all «open» period n codes₀ k₀ codes k = (k ≤ n) × Gathered s (locksAt all) codes k
+
+abbrev μ-loop2 : tie.MeasureT-loop2
+μ-loop2 s first all «open» period n codes₀ k₀ codes k = n - k
+
+abbrev Inv-loop3 : tie.InvT-loop3
+Inv-loop3 s first all₀ «open» period n codes k₀ all k = (k ≤ n) × Marking codes n all₀ all k
+
+abbrev μ-loop3 : tie.MeasureT-loop3
+μ-loop3 s first all₀ «open» period n codes k₀ all k = n - k
+
 -- a refusal that the file has
 refused-is : {n : ℕ} (s : List ℕ) (x : Refusal) (f : PlanFile) → f ≡ refusedFile x → refused x ≡ numbered (readFrom n s) → ReadFromIs n s f
 unfolding refusedFile
 refused-is s x f e h = record { value = rw e (refused-file s x ∙ h); few = rw e (omega arith); room = rw e (length-pad 16 noPartRead []); counts = rw e (λ k h. absurd (omega arith)); spans = rw e (λ h. absurd (let z : _≡_ {A = ℕ} 0 1 = cc in omega arith)) }
 
-abbrev file : tie.At-loop Inv-loop μ-loop → List ℕ
+abbrev file : tie.At-loop Inv-loop μ-loop Inv-loop2 μ-loop2 Inv-loop3 μ-loop3 → List ℕ
 file l = l .before .before .before .before .before .before .before .args .s .now
 
 -- a record was entered: where the turn began, what stands there, and what the entry is
-abbrev at : tie.After-entry-at Inv-loop μ-loop → tie.At-loop Inv-loop μ-loop
+abbrev at : tie.After-entry-at Inv-loop μ-loop Inv-loop2 μ-loop2 Inv-loop3 μ-loop3 → tie.At-loop Inv-loop μ-loop Inv-loop2 μ-loop2 Inv-loop3 μ-loop3
 at e = e .before .before .before .before .before
 
-abbrev shape : tie.After-entry-at Inv-loop μ-loop → Shape
+abbrev shape : tie.After-entry-at Inv-loop μ-loop Inv-loop2 μ-loop2 Inv-loop3 μ-loop3 → Shape
 shape e = e .before .before .shape .given .0 .0
 
-abbrev behind : tie.After-entry-at Inv-loop μ-loop → Cursor
+abbrev behind : tie.After-entry-at Inv-loop μ-loop Inv-loop2 μ-loop2 Inv-loop3 μ-loop3 → Cursor
 behind e = e .before .before .shape .given .0 .1 .0
 
-record-is : (e : tie.After-entry-at Inv-loop μ-loop) → RecordIs (file (at e)) (at e .loop .c) (shape e) (behind e)
+record-is : (e : tie.After-entry-at Inv-loop μ-loop Inv-loop2 μ-loop2 Inv-loop3 μ-loop3) → RecordIs (file (at e)) (at e .loop .c) (shape e) (behind e)
 record-is e = rw (e .before .before .shape .given .1) at (e .before .before .before .before .next .ensures)
 
-entry-is : (e : tie.After-entry-at Inv-loop μ-loop) → entryOf (file (at e)) (at e .loop .c .line) (at e .loop .seen) (shape e) ≡ e .entry-at .result
+entry-is : (e : tie.After-entry-at Inv-loop μ-loop Inv-loop2 μ-loop2 Inv-loop3 μ-loop3) → entryOf (file (at e)) (at e .loop .c .line) (at e .loop .seen) (shape e) ≡ e .entry-at .result
 entry-is e = sym (e .entry-at .ensures)
 
-shorter : (e : tie.After-entry-at Inv-loop μ-loop) → length (file (at e)) - behind e .at < length (file (at e)) - at e .loop .c .at
+shorter : (e : tie.After-entry-at Inv-loop μ-loop Inv-loop2 μ-loop2 Inv-loop3 μ-loop3) → length (file (at e)) - behind e .at < length (file (at e)) - at e .loop .c .at
 shorter e = turn-shortens (file (at e)) (at e .loop .c) (shape e) (behind e) (record-is e)
 
-part-at : (e : tie.After-entry-at Inv-loop μ-loop) → at e .loop .«open» < 16
+part-at : (e : tie.After-entry-at Inv-loop μ-loop Inv-loop2 μ-loop2 Inv-loop3 μ-loop3) → at e .loop .«open» < 16
 part-at e =
     let l = at e in
     part-room (file l) (l .loop .c) (l .loop .seen) (l .loop .«open») (l .loop .name) (l .loop .period) (l .loop .tasks) (l .loop .all) (l .loop .inv) (shape e) (behind e) (record-is e)
 
-refused-file-requires : tie.Need-refused-file-requires Inv-loop μ-loop
+-- the file is over: where its last turn began
+abbrev over : tie.Then2 Inv-loop μ-loop Inv-loop2 μ-loop2 Inv-loop3 μ-loop3 → tie.At-loop Inv-loop μ-loop Inv-loop2 μ-loop2 Inv-loop3 μ-loop3
+over t = t .before .before .before .before
+
+few : (t : tie.Then2 Inv-loop μ-loop Inv-loop2 μ-loop2 Inv-loop3 μ-loop3) → over t .loop .seen .parts .count ≤ 16
+few t =
+    let l = over t in
+    reading-fine (file l) (l .loop .c) (l .loop .seen) (l .loop .«open») (l .loop .name) (l .loop .period) (l .loop .tasks) (l .loop .all) (l .loop .inv) .parts .few
+
+counts : (t : tie.Then2 Inv-loop μ-loop Inv-loop2 μ-loop2 Inv-loop3 μ-loop3) (k : ℕ) → k < over t .loop .seen .parts .count → FineCounts (getD (over t .loop .all) k blankPart)
+counts t =
+    let l = over t in
+    reading-counts (file l) (l .loop .c) (l .loop .seen) (l .loop .«open») (l .loop .name) (l .loop .period) (l .loop .tasks) (l .loop .all) (l .loop .inv)
+
+refused-file-requires : tie.Need-refused-file-requires Inv-loop μ-loop Inv-loop2 μ-loop2 Inv-loop3 μ-loop3
 refused-file-requires c κs = search needs
 
-returns : tie.Need-returns Inv-loop μ-loop
+returns : tie.Need-returns Inv-loop μ-loop Inv-loop2 μ-loop2 Inv-loop3 μ-loop3
 returns c =
     let s = c .before .before .before .args .s .now in
     refused-is s FileTooLong (c .refused-file .result) (c .refused-file .ensures) (reading-too-long _ s (omega arith))
 
-new-requires : tie.Need-new-requires Inv-loop μ-loop
+new-requires : tie.Need-new-requires Inv-loop μ-loop Inv-loop2 μ-loop2 Inv-loop3 μ-loop3
 new-requires c κs = search needs
 
-none-seen-requires : tie.Need-none-seen-requires Inv-loop μ-loop
+none-seen-requires : tie.Need-none-seen-requires Inv-loop μ-loop Inv-loop2 μ-loop2 Inv-loop3 μ-loop3
 none-seen-requires c κs = search needs
 
-no-task-requires : tie.Need-no-task-requires Inv-loop μ-loop
+no-task-requires : tie.Need-no-task-requires Inv-loop μ-loop Inv-loop2 μ-loop2 Inv-loop3 μ-loop3
 no-task-requires c κs = search needs
 
-no-part-requires : tie.Need-no-part-requires Inv-loop μ-loop
+no-part-requires : tie.Need-no-part-requires Inv-loop μ-loop Inv-loop2 μ-loop2 Inv-loop3 μ-loop3
 no-part-requires c κs = search needs
 
-loop-holds : tie.Need-loop-holds Inv-loop μ-loop
+loop-holds : tie.Need-loop-holds Inv-loop μ-loop Inv-loop2 μ-loop2 Inv-loop3 μ-loop3
 unfolding pad
 loop-holds c =
     let a = c .before .before .before .before .before .before .args in
@@ -93,86 +121,74 @@ loop-holds c =
     rw (c .no-part .ensures, c .before .no-task .ensures, c .before .before .none-seen .ensures)
     (subst (λ (k : Cursor). Reading (a .first) (a .s .now) k noneSeen 0 noSpan 0 (pad 16 noTaskRead []) (pad 16 noPartRead [])) start (reading-start (a .first) (a .s .now) (omega arith)))
 
-next-requires : tie.Need-next-requires Inv-loop μ-loop
+next-requires : tie.Need-next-requires Inv-loop μ-loop Inv-loop2 μ-loop2 Inv-loop3 μ-loop3
 next-requires c κs = search needs
 
-enum-told : tie.Need-enum-told Inv-loop μ-loop
+enum-told : tie.Need-enum-told Inv-loop μ-loop Inv-loop2 μ-loop2 Inv-loop3 μ-loop3
 enum-told c = search needs
 
-returns-2 : tie.Need-returns-2 Inv-loop μ-loop
-returns-2 c =
-    let l = c .before .before .before .before in
-    let few = reading-fine (file l) (l .loop .c) (l .loop .seen) (l .loop .«open») (l .loop .name) (l .loop .period) (l .loop .tasks) (l .loop .all) (l .loop .inv) .parts .few in
-    record {
-      value = reading-done (file l) (l .loop .c) (l .loop .seen) (l .loop .«open») (l .loop .name) (l .loop .period) (l .loop .tasks) (l .loop .all) (l .loop .inv) (rw (c .before .enum-told .given .1) at (c .before .before .before .next .ensures)) (c .if2 .taken);
-      few = few;
-      room = l .loop .inv .stands .room;
-      counts = λ k h. subst FineCounts (getD-any (l .loop .all) k noPartRead blankPart (omega (arith, l .loop .inv .stands .room, few))) (l .loop .inv .stands .counts k);
-      spans = λ d. reading-spans (file l) (l .loop .c) (l .loop .seen) (l .loop .«open») (l .loop .name) (l .loop .period) (l .loop .tasks) (l .loop .all) (l .loop .inv) (rw (c .before .enum-told .given .1) at (c .before .before .before .next .ensures)) (c .if2 .taken);
-    }
-
-refused-file-requires-2 : tie.Need-refused-file-requires-2 Inv-loop μ-loop
+refused-file-requires-2 : tie.Need-refused-file-requires-2 Inv-loop μ-loop Inv-loop2 μ-loop2 Inv-loop3 μ-loop3
 refused-file-requires-2 c κs = search needs
 
-returns-3 : tie.Need-returns-3 Inv-loop μ-loop
-returns-3 c =
+returns-2 : tie.Need-returns-2 Inv-loop μ-loop Inv-loop2 μ-loop2 Inv-loop3 μ-loop3
+returns-2 c =
     let l = c .before .before .before .before .before in
     refused-is (file l) (Misplaced (l .loop .c .line)) (c .refused-file2 .result) (c .refused-file2 .ensures)
     (reading-over (file l) (l .loop .c) (l .loop .seen) (l .loop .«open») (l .loop .name) (l .loop .period) (l .loop .tasks) (l .loop .all) (l .loop .inv) (rw (c .before .before .enum-told .given .1) at (c .before .before .before .before .next .ensures)) (c .before .if2 .left))
 
-enum-told-2 : tie.Need-enum-told-2 Inv-loop μ-loop
+enum-told-2 : tie.Need-enum-told-2 Inv-loop μ-loop Inv-loop2 μ-loop2 Inv-loop3 μ-loop3
 enum-told-2 c = search needs
 
-refused-file-requires-3 : tie.Need-refused-file-requires-3 Inv-loop μ-loop
+refused-file-requires-3 : tie.Need-refused-file-requires-3 Inv-loop μ-loop Inv-loop2 μ-loop2 Inv-loop3 μ-loop3
 refused-file-requires-3 c κs = search needs
 
-returns-4 : tie.Need-returns-4 Inv-loop μ-loop
-returns-4 c =
+returns-3 : tie.Need-returns-3 Inv-loop μ-loop Inv-loop2 μ-loop2 Inv-loop3 μ-loop3
+returns-3 c =
     let l = c .before .before .before .before in
     refused-is (file l) (BadLine (l .loop .c .line)) (c .refused-file3 .result) (c .refused-file3 .ensures)
     (reading-broken (file l) (l .loop .c) (l .loop .seen) (l .loop .«open») (l .loop .name) (l .loop .period) (l .loop .tasks) (l .loop .all) (l .loop .inv) (rw (c .before .enum-told2 .given .1) at (c .before .before .before .next .ensures)))
 
-enum-known-shape : tie.Need-enum-known-shape Inv-loop μ-loop
+enum-known-shape : tie.Need-enum-known-shape Inv-loop μ-loop Inv-loop2 μ-loop2 Inv-loop3 μ-loop3
 enum-known-shape c = search needs
 
-entry-at-requires : tie.Need-entry-at-requires Inv-loop μ-loop
+entry-at-requires : tie.Need-entry-at-requires Inv-loop μ-loop Inv-loop2 μ-loop2 Inv-loop3 μ-loop3
 entry-at-requires c κs = search needs
 
-enum-known-r : tie.Need-enum-known-r Inv-loop μ-loop
+enum-known-r : tie.Need-enum-known-r Inv-loop μ-loop Inv-loop2 μ-loop2 Inv-loop3 μ-loop3
 enum-known-r c = search needs
 
-refused-file-requires-4 : tie.Need-refused-file-requires-4 Inv-loop μ-loop
+refused-file-requires-4 : tie.Need-refused-file-requires-4 Inv-loop μ-loop Inv-loop2 μ-loop2 Inv-loop3 μ-loop3
 refused-file-requires-4 c κs = search needs
 
-returns-5 : tie.Need-returns-5 Inv-loop μ-loop
-returns-5 c =
+returns-4 : tie.Need-returns-4 Inv-loop μ-loop Inv-loop2 μ-loop2 Inv-loop3 μ-loop3
+returns-4 c =
     let e = c .before .before .before .before in
     let l = at e in
     refused-is (file l) (c .before .before .r .given .0 .0) (c .refused-file4 .result) (c .refused-file4 .ensures)
     (reading-refused (file l) (l .loop .c) (l .loop .seen) (l .loop .«open») (l .loop .name) (l .loop .period) (l .loop .tasks) (l .loop .all) (l .loop .inv) (shape e) (behind e) (record-is e) (c .before .before .r .given .0 .0) (entry-is e ∙ c .before .before .r .given .1))
 
-enum-known-new-name : tie.Need-enum-known-new-name Inv-loop μ-loop
+enum-known-new-name : tie.Need-enum-known-new-name Inv-loop μ-loop Inv-loop2 μ-loop2 Inv-loop3 μ-loop3
 enum-known-new-name c = search needs
 
-closed-part-requires : tie.Need-closed-part-requires Inv-loop μ-loop
+closed-part-requires : tie.Need-closed-part-requires Inv-loop μ-loop Inv-loop2 μ-loop2 Inv-loop3 μ-loop3
 closed-part-requires c κs = search needs
 
-mul-all : tie.Need-mul-all Inv-loop μ-loop
+mul-all : tie.Need-mul-all Inv-loop μ-loop Inv-loop2 μ-loop2 Inv-loop3 μ-loop3
 mul-all c = omega (arith, part-at (c .before .before .before .before .before))
 
-array-set-from-all : tie.Need-array-set-from-all Inv-loop μ-loop
+array-set-from-all : tie.Need-array-set-from-all Inv-loop μ-loop Inv-loop2 μ-loop2 Inv-loop3 μ-loop3
 array-set-from-all c = part-at (c .before .before .before .before .before)
 
-seen-part-requires : tie.Need-seen-part-requires Inv-loop μ-loop
+seen-part-requires : tie.Need-seen-part-requires Inv-loop μ-loop Inv-loop2 μ-loop2 Inv-loop3 μ-loop3
 seen-part-requires c κs =
     let e = c .before .before .before .before .before in
     let l = at e in
     name-room (file l) (l .loop .c) (l .loop .seen) (l .loop .«open») (l .loop .name) (l .loop .period) (l .loop .tasks) (l .loop .all) (l .loop .inv) (shape e) (behind e) (record-is e) (c .before .before .before .new-name .given .0 .0) (c .before .before .before .new-name .given .0 .1 .0) (entry-is e ∙ c .before .before .before .new-name .given .1)
 
-loop-less : tie.Need-loop-less Inv-loop μ-loop
+loop-less : tie.Need-loop-less Inv-loop μ-loop Inv-loop2 μ-loop2 Inv-loop3 μ-loop3
 loop-less c = shorter (c .before .before .before .before .before .before)
 
-loop-again : tie.Need-loop-again Inv-loop μ-loop
+loop-again : tie.Need-loop-again Inv-loop μ-loop Inv-loop2 μ-loop2 Inv-loop3 μ-loop3
 unfolding pad
 loop-again c =
     let e = c .before .before .before .before .before .before in
@@ -180,102 +196,175 @@ loop-again c =
     let law = reading-part (file l) (l .loop .c) (l .loop .seen) (l .loop .«open») (l .loop .name) (l .loop .period) (l .loop .tasks) (l .loop .all) (l .loop .inv) (shape e) (behind e) (record-is e) (c .before .before .before .before .new-name .given .0 .0) (c .before .before .before .before .new-name .given .0 .1 .0) (entry-is e ∙ c .before .before .before .before .new-name .given .1) in
     rw (c .seen-part .ensures, c .before .closed-part .ensures, c .before .before .before .before .before .before .before .before .before .before .before .before .before .no-task .ensures) law
 
-enum-known-task-name : tie.Need-enum-known-task-name Inv-loop μ-loop
+enum-known-task-name : tie.Need-enum-known-task-name Inv-loop μ-loop Inv-loop2 μ-loop2 Inv-loop3 μ-loop3
 enum-known-task-name c = search needs
 
-mul-tasks : tie.Need-mul-tasks Inv-loop μ-loop
+mul-tasks : tie.Need-mul-tasks Inv-loop μ-loop Inv-loop2 μ-loop2 Inv-loop3 μ-loop3
 mul-tasks c =
     let e = c .before .before .before in
     let l = at e in
     omega (arith, task-room (file l) (l .loop .c) (l .loop .seen) (l .loop .«open») (l .loop .name) (l .loop .period) (l .loop .tasks) (l .loop .all) (l .loop .inv) (shape e) (behind e) (record-is e) (c .before .task-name .given .0 .0) (c .before .task-name .given .0 .1 .0) (c .before .task-name .given .0 .1 .1 .0) (c .before .task-name .given .0 .1 .1 .1 .0) (entry-is e ∙ c .before .task-name .given .1))
 
-array-set-from-tasks : tie.Need-array-set-from-tasks Inv-loop μ-loop
+array-set-from-tasks : tie.Need-array-set-from-tasks Inv-loop μ-loop Inv-loop2 μ-loop2 Inv-loop3 μ-loop3
 array-set-from-tasks c =
     let e = c .before .before .before in
     let l = at e in
     task-room (file l) (l .loop .c) (l .loop .seen) (l .loop .«open») (l .loop .name) (l .loop .period) (l .loop .tasks) (l .loop .all) (l .loop .inv) (shape e) (behind e) (record-is e) (c .before .task-name .given .0 .0) (c .before .task-name .given .0 .1 .0) (c .before .task-name .given .0 .1 .1 .0) (c .before .task-name .given .0 .1 .1 .1 .0) (entry-is e ∙ c .before .task-name .given .1)
 
-seen-task-requires : tie.Need-seen-task-requires Inv-loop μ-loop
+seen-task-requires : tie.Need-seen-task-requires Inv-loop μ-loop Inv-loop2 μ-loop2 Inv-loop3 μ-loop3
 seen-task-requires c κs =
     let e = c .before .before .before in
     let l = at e in
     task-room (file l) (l .loop .c) (l .loop .seen) (l .loop .«open») (l .loop .name) (l .loop .period) (l .loop .tasks) (l .loop .all) (l .loop .inv) (shape e) (behind e) (record-is e) (c .before .task-name .given .0 .0) (c .before .task-name .given .0 .1 .0) (c .before .task-name .given .0 .1 .1 .0) (c .before .task-name .given .0 .1 .1 .1 .0) (entry-is e ∙ c .before .task-name .given .1)
 
-loop-less-2 : tie.Need-loop-less-2 Inv-loop μ-loop
+loop-less-2 : tie.Need-loop-less-2 Inv-loop μ-loop Inv-loop2 μ-loop2 Inv-loop3 μ-loop3
 loop-less-2 c = shorter (c .before .before .before .before)
 
-loop-again-2 : tie.Need-loop-again-2 Inv-loop μ-loop
+loop-again-2 : tie.Need-loop-again-2 Inv-loop μ-loop Inv-loop2 μ-loop2 Inv-loop3 μ-loop3
 unfolding pad
 loop-again-2 c =
     let e = c .before .before .before .before in
     let l = at e in
     rw (c .seen-task .ensures) (reading-task (file l) (l .loop .c) (l .loop .seen) (l .loop .«open») (l .loop .name) (l .loop .period) (l .loop .tasks) (l .loop .all) (l .loop .inv) (shape e) (behind e) (record-is e) (c .before .before .task-name .given .0 .0) (c .before .before .task-name .given .0 .1 .0) (c .before .before .task-name .given .0 .1 .1 .0) (c .before .before .task-name .given .0 .1 .1 .1 .0) (entry-is e ∙ c .before .before .task-name .given .1))
 
-enum-known-lock-name : tie.Need-enum-known-lock-name Inv-loop μ-loop
+enum-known-lock-name : tie.Need-enum-known-lock-name Inv-loop μ-loop Inv-loop2 μ-loop2 Inv-loop3 μ-loop3
 enum-known-lock-name c = search needs
 
-held-at-requires : tie.Need-held-at-requires Inv-loop μ-loop
+held-at-requires : tie.Need-held-at-requires Inv-loop μ-loop Inv-loop2 μ-loop2 Inv-loop3 μ-loop3
 held-at-requires c κs =
     let e = c .before .before .before .before in
     let l = at e in
     lock-room (file l) (l .loop .c) (l .loop .seen) (l .loop .«open») (l .loop .name) (l .loop .period) (l .loop .tasks) (l .loop .all) (l .loop .inv) (shape e) (behind e) (record-is e) (c .before .before .lock-name .given .0 .0) (c .before .before .lock-name .given .0 .1 .0) (c .before .before .lock-name .given .0 .1 .1 .0) (entry-is e ∙ c .before .before .lock-name .given .1) .0
 
-sub-tasks : tie.Need-sub-tasks Inv-loop μ-loop
+sub-tasks : tie.Need-sub-tasks Inv-loop μ-loop Inv-loop2 μ-loop2 Inv-loop3 μ-loop3
 sub-tasks c =
     let e = c .before .before .before .before .before in
     let l = at e in
     omega (arith, lock-room (file l) (l .loop .c) (l .loop .seen) (l .loop .«open») (l .loop .name) (l .loop .period) (l .loop .tasks) (l .loop .all) (l .loop .inv) (shape e) (behind e) (record-is e) (c .before .before .before .lock-name .given .0 .0) (c .before .before .before .lock-name .given .0 .1 .0) (c .before .before .before .lock-name .given .0 .1 .1 .0) (entry-is e ∙ c .before .before .before .lock-name .given .1))
 
-mul-tasks-2 : tie.Need-mul-tasks-2 Inv-loop μ-loop
+mul-tasks-2 : tie.Need-mul-tasks-2 Inv-loop μ-loop Inv-loop2 μ-loop2 Inv-loop3 μ-loop3
 mul-tasks-2 c =
     let e = c .before .before .before .before .before in
     let l = at e in
     omega (arith, lock-room (file l) (l .loop .c) (l .loop .seen) (l .loop .«open») (l .loop .name) (l .loop .period) (l .loop .tasks) (l .loop .all) (l .loop .inv) (shape e) (behind e) (record-is e) (c .before .before .before .lock-name .given .0 .0) (c .before .before .before .lock-name .given .0 .1 .0) (c .before .before .before .lock-name .given .0 .1 .1 .0) (entry-is e ∙ c .before .before .before .lock-name .given .1))
 
-array-set-from-tasks-2 : tie.Need-array-set-from-tasks-2 Inv-loop μ-loop
+array-set-from-tasks-2 : tie.Need-array-set-from-tasks-2 Inv-loop μ-loop Inv-loop2 μ-loop2 Inv-loop3 μ-loop3
 array-set-from-tasks-2 c =
     let e = c .before .before .before .before .before in
     let l = at e in
     omega (arith, lock-room (file l) (l .loop .c) (l .loop .seen) (l .loop .«open») (l .loop .name) (l .loop .period) (l .loop .tasks) (l .loop .all) (l .loop .inv) (shape e) (behind e) (record-is e) (c .before .before .before .lock-name .given .0 .0) (c .before .before .before .lock-name .given .0 .1 .0) (c .before .before .before .lock-name .given .0 .1 .1 .0) (entry-is e ∙ c .before .before .before .lock-name .given .1))
 
-seen-lock-requires : tie.Need-seen-lock-requires Inv-loop μ-loop
+seen-lock-requires : tie.Need-seen-lock-requires Inv-loop μ-loop Inv-loop2 μ-loop2 Inv-loop3 μ-loop3
 seen-lock-requires c κs =
     let e = c .before .before .before .before .before in
     let l = at e in
     omega (arith, lock-room (file l) (l .loop .c) (l .loop .seen) (l .loop .«open») (l .loop .name) (l .loop .period) (l .loop .tasks) (l .loop .all) (l .loop .inv) (shape e) (behind e) (record-is e) (c .before .before .before .lock-name .given .0 .0) (c .before .before .before .lock-name .given .0 .1 .0) (c .before .before .before .lock-name .given .0 .1 .1 .0) (entry-is e ∙ c .before .before .before .lock-name .given .1))
 
-loop-less-3 : tie.Need-loop-less-3 Inv-loop μ-loop
+loop-less-3 : tie.Need-loop-less-3 Inv-loop μ-loop Inv-loop2 μ-loop2 Inv-loop3 μ-loop3
 loop-less-3 c = shorter (c .before .before .before .before .before .before)
 
-loop-again-3 : tie.Need-loop-again-3 Inv-loop μ-loop
+loop-again-3 : tie.Need-loop-again-3 Inv-loop μ-loop Inv-loop2 μ-loop2 Inv-loop3 μ-loop3
 loop-again-3 c =
     let e = c .before .before .before .before .before .before in
     let l = at e in
     rw (c .seen-lock .ensures, c .before .held-at .ensures) (reading-lock (file l) (l .loop .c) (l .loop .seen) (l .loop .«open») (l .loop .name) (l .loop .period) (l .loop .tasks) (l .loop .all) (l .loop .inv) (shape e) (behind e) (record-is e) (c .before .before .before .before .lock-name .given .0 .0) (c .before .before .before .before .lock-name .given .0 .1 .0) (c .before .before .before .before .lock-name .given .0 .1 .1 .0) (entry-is e ∙ c .before .before .before .before .lock-name .given .1))
 
-enum-told-3 : tie.Need-enum-told-3 Inv-loop μ-loop
+enum-told-3 : tie.Need-enum-told-3 Inv-loop μ-loop Inv-loop2 μ-loop2 Inv-loop3 μ-loop3
 enum-told-3 c = search needs
 
-closed-part-requires-2 : tie.Need-closed-part-requires-2 Inv-loop μ-loop
+closed-part-requires-2 : tie.Need-closed-part-requires-2 Inv-loop μ-loop Inv-loop2 μ-loop2 Inv-loop3 μ-loop3
 closed-part-requires-2 c κs = search needs
 
-mul-all-2 : tie.Need-mul-all-2 Inv-loop μ-loop
+mul-all-2 : tie.Need-mul-all-2 Inv-loop μ-loop Inv-loop2 μ-loop2 Inv-loop3 μ-loop3
 mul-all-2 c = omega (arith, part-at (c .before .before .before .before))
 
-array-set-from-all-2 : tie.Need-array-set-from-all-2 Inv-loop μ-loop
+array-set-from-all-2 : tie.Need-array-set-from-all-2 Inv-loop μ-loop Inv-loop2 μ-loop2 Inv-loop3 μ-loop3
 array-set-from-all-2 c = part-at (c .before .before .before .before)
 
-seen-end-requires : tie.Need-seen-end-requires Inv-loop μ-loop
+seen-end-requires : tie.Need-seen-end-requires Inv-loop μ-loop Inv-loop2 μ-loop2 Inv-loop3 μ-loop3
 seen-end-requires c κs = search needs
 
-loop-less-4 : tie.Need-loop-less-4 Inv-loop μ-loop
+loop-less-4 : tie.Need-loop-less-4 Inv-loop μ-loop Inv-loop2 μ-loop2 Inv-loop3 μ-loop3
 loop-less-4 c = shorter (c .before .before .before .before .before)
 
-loop-again-4 : tie.Need-loop-again-4 Inv-loop μ-loop
+loop-again-4 : tie.Need-loop-again-4 Inv-loop μ-loop Inv-loop2 μ-loop2 Inv-loop3 μ-loop3
 loop-again-4 c =
     let e = c .before .before .before .before .before in
     let l = at e in
     rw (c .seen-end .ensures, c .before .closed-part2 .ensures) (reading-end (file l) (l .loop .c) (l .loop .seen) (l .loop .«open») (l .loop .name) (l .loop .period) (l .loop .tasks) (l .loop .all) (l .loop .inv) (shape e) (behind e) (record-is e) (entry-is e ∙ c .before .before .before .enum-told3 .given .1))
+
+loop2-holds : tie.Need-loop2-holds Inv-loop μ-loop Inv-loop2 μ-loop2 Inv-loop3 μ-loop3
+loop2-holds c = (omega arith, gathered-start _ _)
+
+mul-p : tie.Need-mul-p Inv-loop μ-loop Inv-loop2 μ-loop2 Inv-loop3 μ-loop3
+mul-p c = omega (arith, few (c .before .before))
+
+array-copy-out-p : tie.Need-array-copy-out-p Inv-loop μ-loop Inv-loop2 μ-loop2 Inv-loop3 μ-loop3
+array-copy-out-p c = omega (arith, few (c .before .before))
+
+slice-aggregate-put-codes : tie.Need-slice-aggregate-put-codes Inv-loop μ-loop Inv-loop2 μ-loop2 Inv-loop3 μ-loop3
+slice-aggregate-put-codes c = sym (c .before .before .before .before .loop2 .inv .1 .room)
+
+put-codes-requires : tie.Need-put-codes-requires Inv-loop μ-loop Inv-loop2 μ-loop2 Inv-loop3 μ-loop3
+put-codes-requires c κs =
+    let l = c .before .before .before .before in
+    let fine = counts (l .before) (l .loop2 .k) (c .before .before .before .loop2-test .taken) in
+    (omega (arith, few (l .before)), omega (arith, fine .few-locks, fine .locks-are), l .loop2 .inv .1 .room)
+
+add-k : tie.Need-add-k Inv-loop μ-loop Inv-loop2 μ-loop2 Inv-loop3 μ-loop3
+add-k c = omega (arith, few (c .before .before .before .before .before .before .before))
+
+loop2-less : tie.Need-loop2-less Inv-loop μ-loop Inv-loop2 μ-loop2 Inv-loop3 μ-loop3
+loop2-less c = omega arith
+
+loop2-again : tie.Need-loop2-again Inv-loop μ-loop Inv-loop2 μ-loop2 Inv-loop3 μ-loop3
+loop2-again c =
+    let l = c .before .before .before .before .before .before in
+    let fine = counts (l .before) (l .loop2 .k) (c .before .before .before .before .before .loop2-test .taken) in
+    (omega arith, gathered-step _ (locksAt (over (l .before) .loop .all)) (l .loop2 .codes) _ (l .loop2 .k) (l .loop2 .inv .1) (fine .names) (omega (arith, fine .few-locks, fine .locks-are)) (c .before .put-codes .ensures))
+
+loop3-holds : tie.Need-loop3-holds Inv-loop μ-loop Inv-loop2 μ-loop2 Inv-loop3 μ-loop3
+loop3-holds c = (omega arith, marking-start _ _ _)
+
+marks-at-requires : tie.Need-marks-at-requires Inv-loop μ-loop Inv-loop2 μ-loop2 Inv-loop3 μ-loop3
+marks-at-requires c κs = let h = few (c .before .before .before .before .before) in (h, omega (arith, h))
+
+mul-p-2 : tie.Need-mul-p-2 Inv-loop μ-loop Inv-loop2 μ-loop2 Inv-loop3 μ-loop3
+mul-p-2 c = omega (arith, few (c .before .before .before .before .before .before))
+
+array-copy-out-p-2 : tie.Need-array-copy-out-p-2 Inv-loop μ-loop Inv-loop2 μ-loop2 Inv-loop3 μ-loop3
+array-copy-out-p-2 c = omega (arith, few (c .before .before .before .before .before .before))
+
+mul-all-3 : tie.Need-mul-all-3 Inv-loop μ-loop Inv-loop2 μ-loop2 Inv-loop3 μ-loop3
+mul-all-3 c = omega (arith, few (c .before .before .before .before .before .before .before .before))
+
+array-set-from-all-3 : tie.Need-array-set-from-all-3 Inv-loop μ-loop Inv-loop2 μ-loop2 Inv-loop3 μ-loop3
+array-set-from-all-3 c = omega (arith, few (c .before .before .before .before .before .before .before .before))
+
+add-k-2 : tie.Need-add-k-2 Inv-loop μ-loop Inv-loop2 μ-loop2 Inv-loop3 μ-loop3
+add-k-2 c = omega (arith, few (c .before .before .before .before .before .before .before .before))
+
+loop3-less : tie.Need-loop3-less Inv-loop μ-loop Inv-loop2 μ-loop2 Inv-loop3 μ-loop3
+loop3-less c = omega arith
+
+loop3-again : tie.Need-loop3-again Inv-loop μ-loop Inv-loop2 μ-loop2 Inv-loop3 μ-loop3
+loop3-again c =
+    let l = c .before .before .before .before .before in
+    let t = l .before .before .before in
+    (omega arith, marking-step _ _ (over t .loop .all) (l .loop3 .all) (l .loop3 .k) _ (l .loop3 .inv .1) (omega (arith, few t, over t .loop .inv .stands .room)) (c .before .before .marks-at .ensures))
+
+returns-5 : tie.Need-returns-5 Inv-loop μ-loop Inv-loop2 μ-loop2 Inv-loop3 μ-loop3
+returns-5 c =
+    let g = c .before .before .before .loop2 in
+    let m = c .before .loop3 in
+    let t = c .before .before .before .before in
+    let l = over t in
+    let n = l .loop .seen .parts .count in
+    let e : g .k ≡ n = omega arith in
+    let d : m .k ≡ n = omega arith in
+    reading-marked (file l) (l .loop .c) (l .loop .seen) (l .loop .«open») (l .loop .name) (l .loop .period) (l .loop .tasks) (l .loop .all) (l .loop .inv)
+    (rw (t .before .enum-told .given .1) at (t .before .before .before .next .ensures)) (t .if2 .taken)
+    (g .codes) (m .all) (subst (Gathered (file l) (locksAt (l .loop .all)) (g .codes)) e (g .inv .1)) (subst (Marking (g .codes) n (l .loop .all) (m .all)) d (m .inv .1))
 
 pub read-file-spec : {M : Type 1} → statement M
 read-file-spec =
@@ -283,6 +372,10 @@ read-file-spec =
     (tie.spec
     Inv-loop
     μ-loop
+    Inv-loop2
+    μ-loop2
+    Inv-loop3
+    μ-loop3
     refused-file-requires
     returns
     new-requires
@@ -292,17 +385,16 @@ read-file-spec =
     loop-holds
     next-requires
     enum-told
-    returns-2
     refused-file-requires-2
-    returns-3
+    returns-2
     enum-told-2
     refused-file-requires-3
-    returns-4
+    returns-3
     enum-known-shape
     entry-at-requires
     enum-known-r
     refused-file-requires-4
-    returns-5
+    returns-4
     enum-known-new-name
     closed-part-requires
     mul-all
@@ -330,4 +422,22 @@ read-file-spec =
     array-set-from-all-2
     seen-end-requires
     loop-less-4
-    loop-again-4)
+    loop-again-4
+    loop2-holds
+    mul-p
+    array-copy-out-p
+    slice-aggregate-put-codes
+    put-codes-requires
+    add-k
+    loop2-less
+    loop2-again
+    loop3-holds
+    marks-at-requires
+    mul-p-2
+    array-copy-out-p-2
+    mul-all-3
+    array-set-from-all-3
+    add-k-2
+    loop3-less
+    loop3-again
+    returns-5)

@@ -10,6 +10,7 @@
 -- Assumes nothing.
 use Prim.Native.Nat.{ℕ, _≤_, _<_}
 use mathlib.Core.Path.{_≡_}
+use mathlib.Core.Bool.{false}
 use mathlib.Core.List.{List, [], map}
 use lib.ListN.{length, take, set, getD}
 use Rattle.least.specs.Lists.{pad}
@@ -41,14 +42,18 @@ fileOf s f = whenDone (f .outcome) (answered (partsIn s f))
 
 -- a part with all that was read of it, and one of which nothing was read
 unfoldable pub closedPart : Span → ℕ → List Task → ℕ → Names → PartRead
-closedPart name P ts n locks = record { name = name; part = record { period = P; tasks = ts; count = n; locks = locks .count }; locks = locks }
+closedPart name P ts n locks = record {
+  name = name;
+  part = record { period = P; tasks = ts; count = n; locks = locks .count; shared = pad lockLimit false [] };
+  locks = locks;
+}
 
 abbrev pub noPartRead : PartRead
 noPartRead = closedPart noSpan 0 (pad taskLimit noTaskRead []) 0 noNames
 
 -- what is read past the end of an array of parts, which nobody does
 abbrev pub blankPart : PartRead
-blankPart = record { name = noSpan; part = record { period = 0; tasks = []; count = 0; locks = 0 }; locks = record { count = 0; span = [] } }
+blankPart = record { name = noSpan; part = record { period = 0; tasks = []; count = 0; locks = 0; shared = [] }; locks = record { count = 0; span = [] } }
 
 pub record FineCounts (r : PartRead) : Type 0 where
   pub few : r .part .count ≤ taskLimit

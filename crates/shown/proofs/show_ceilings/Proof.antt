@@ -18,11 +18,11 @@ use Rattle.shown.proofs.show_ceilings.Statement.{statement}
 use Rattle.shown.proofs.show_ceilings.Tie as tie
 
 abbrev Inv-loop : tie.InvT-loop
-Inv-loop part x k ceilings₀ separations costs longest limits lowest first hint₀ j₀ ceilings hint j =
+Inv-loop part x k ceilings₀ separations costs longest limits lowest shared first hint₀ j₀ ceilings hint j =
     (j ≤ part .locks) × Stored (λ i. shownCeiling (partitionOf part) x (suc i)) (lockLimit * k) j ceilings₀ ceilings × HintIs (timesOf separations costs (part .count)) hint
 
 abbrev μ-loop : tie.MeasureT-loop
-μ-loop part x k ceilings₀ separations costs longest limits lowest first hint₀ j₀ ceilings hint j = part .locks - j
+μ-loop part x k ceilings₀ separations costs longest limits lowest shared first hint₀ j₀ ceilings hint j = part .locks - j
 
 columns-of-requires : tie.Need-columns-of-requires Inv-loop μ-loop
 columns-of-requires c κs = tt
@@ -31,7 +31,7 @@ locks-of-requires : tie.Need-locks-of-requires Inv-loop μ-loop
 locks-of-requires c κs = c .before .before .before .before .pre .0
 
 mul-first : tie.Need-mul-first Inv-loop μ-loop
-mul-first c = omega (arith, c .before .before .before .before .before .before .before .before .pre .1 .0)
+mul-first c = omega (arith, c .before .before .before .before .before .before .before .before .before .pre .1 .0)
 
 no-hint-requires : tie.Need-no-hint-requires Inv-loop μ-loop
 no-hint-requires c κs = tt
@@ -39,31 +39,34 @@ no-hint-requires c κs = tt
 loop-holds : tie.Need-loop-holds Inv-loop μ-loop
 loop-holds c = (omega arith, store-start _ _ _, c .no-hint .ensures _)
 
-mul-lowest-within : tie.Need-mul-lowest-within Inv-loop μ-loop
-mul-lowest-within c = omega (arith, c .before .before .before .before .before .before .before .before .before .before .before .before .before .before .pre .0 .few-locks)
+mul-ceiling-within : tie.Need-mul-ceiling-within Inv-loop μ-loop
+mul-ceiling-within c = omega (arith, c .before .before .before .before .before .before .before .before .before .before .before .before .before .before .before .pre .0 .few-locks)
 
-array-read-lowest-within : tie.Need-array-read-lowest-within Inv-loop μ-loop
-array-read-lowest-within c = omega (arith, c .before .before .before .before .before .before .before .before .before .before .before .before .before .before .pre .0 .few-locks)
+array-read-ceiling-within : tie.Need-array-read-ceiling-within Inv-loop μ-loop
+array-read-ceiling-within c = omega (arith, c .before .before .before .before .before .before .before .before .before .before .before .before .before .before .before .pre .0 .few-locks)
 
-mul-lowest-within-2 : tie.Need-mul-lowest-within-2 Inv-loop μ-loop
-mul-lowest-within-2 c = omega (arith, c .before .before .before .before .before .before .before .before .before .before .before .before .before .before .pre .0 .few-locks)
+mul-ceiling-within-2 : tie.Need-mul-ceiling-within-2 Inv-loop μ-loop
+mul-ceiling-within-2 c = omega (arith, c .before .before .before .before .before .before .before .before .before .before .before .before .before .before .before .pre .0 .few-locks)
 
-array-read-lowest-within-2 : tie.Need-array-read-lowest-within-2 Inv-loop μ-loop
-array-read-lowest-within-2 c = omega (arith, c .before .before .before .before .before .before .before .before .before .before .before .before .before .before .pre .0 .few-locks)
+array-read-ceiling-within-2 : tie.Need-array-read-ceiling-within-2 Inv-loop μ-loop
+array-read-ceiling-within-2 c = omega (arith, c .before .before .before .before .before .before .before .before .before .before .before .before .before .before .before .pre .0 .few-locks)
 
-mul-lowest-within-3 : tie.Need-mul-lowest-within-3 Inv-loop μ-loop
-mul-lowest-within-3 c = omega (arith, c .before .before .before .before .before .before .before .before .before .before .before .before .before .before .pre .0 .few-locks)
+mul-ceiling-within-3 : tie.Need-mul-ceiling-within-3 Inv-loop μ-loop
+mul-ceiling-within-3 c = omega (arith, c .before .before .before .before .before .before .before .before .before .before .before .before .before .before .before .pre .0 .few-locks)
 
-array-read-lowest-within-3 : tie.Need-array-read-lowest-within-3 Inv-loop μ-loop
-array-read-lowest-within-3 c = omega (arith, c .before .before .before .before .before .before .before .before .before .before .before .before .before .before .pre .0 .few-locks)
+array-read-ceiling-within-3 : tie.Need-array-read-ceiling-within-3 Inv-loop μ-loop
+array-read-ceiling-within-3 c = omega (arith, c .before .before .before .before .before .before .before .before .before .before .before .before .before .before .before .pre .0 .few-locks)
 
-lowest-within-requires : tie.Need-lowest-within-requires Inv-loop μ-loop
-lowest-within-requires c κs =
-    let s = c .before .before .before .before .before .before .before .before .before .before .before .before .before .before in
+array-read-ceiling-within-4 : tie.Need-array-read-ceiling-within-4 Inv-loop μ-loop
+array-read-ceiling-within-4 c = omega (arith, c .before .before .before .before .before .before .before .before .before .before .before .before .before .before .before .pre .0 .few-locks)
+
+ceiling-within-requires : tie.Need-ceiling-within-requires Inv-loop μ-loop
+ceiling-within-requires c κs =
+    let s = c .before .before .before .before .before .before .before .before .before .before .before .before .before .before .before in
     let at = c .before .before .before .before .loop in
     let l : at .j < s .args .part .locks = c .before .before .if1 .taken in
-    let columns = c .before .before .before .before .before .before .before .before .before .before .before .before .columns-of in
-    let k = c .before .before .before .before .before .before .before .before .before .locks-of .ensures in
+    let columns = c .before .before .before .before .before .before .before .before .before .before .before .before .before .columns-of in
+    let k = c .before .before .before .before .before .before .before .before .before .before .locks-of .ensures in
     let fine = s .pre .0 in
     (columns-fine (s .args .part) fine (columns .result) (columns .ensures), omega (arith, k .longest (at .j) l, fine .used (suc (at .j)) (omega arith) l), omega (arith, k .longest (at .j) l, longest-most (s .args .part) fine (suc (at .j)) (omega arith) l), omega (arith, k .deadlines (at .j) l, deadline-most (s .args .part) fine (suc (at .j)) (omega arith) l), at .inv .2)
 
@@ -72,33 +75,33 @@ ceiling-or-0-requires c κs = tt
 
 add-ceilings : tie.Need-add-ceilings Inv-loop μ-loop
 add-ceilings c =
-    let s = c .before .before .before .before .before .before .before .before .before .before .before .before .before .before .before .before .before in
+    let s = c .before .before .before .before .before .before .before .before .before .before .before .before .before .before .before .before .before .before in
     omega (arith, s .pre .0 .few-locks, s .pre .1)
 
 mul-ceilings : tie.Need-mul-ceilings Inv-loop μ-loop
 mul-ceilings c =
-    let s = c .before .before .before .before .before .before .before .before .before .before .before .before .before .before .before .before .before in
+    let s = c .before .before .before .before .before .before .before .before .before .before .before .before .before .before .before .before .before .before in
     omega (arith, s .pre .0 .few-locks, s .pre .1, c .before .before .before .before .before .before .before .loop .inv .1 .room)
 
 slice-write-ceilings : tie.Need-slice-write-ceilings Inv-loop μ-loop
 slice-write-ceilings c =
-    let s = c .before .before .before .before .before .before .before .before .before .before .before .before .before .before .before .before .before in
+    let s = c .before .before .before .before .before .before .before .before .before .before .before .before .before .before .before .before .before .before in
     omega (arith, s .pre .0 .few-locks, s .pre .1, c .before .before .before .before .before .before .before .loop .inv .1 .room)
 
 add-j : tie.Need-add-j Inv-loop μ-loop
-add-j c = omega (arith, c .before .before .before .before .before .before .before .before .before .before .before .before .before .before .before .before .before .pre .0 .few-locks)
+add-j c = omega (arith, c .before .before .before .before .before .before .before .before .before .before .before .before .before .before .before .before .before .before .pre .0 .few-locks)
 
 loop-less : tie.Need-loop-less Inv-loop μ-loop
 loop-less c = omega arith
 
 loop-again : tie.Need-loop-again Inv-loop μ-loop
 loop-again c =
-    let s = c .before .before .before .before .before .before .before .before .before .before .before .before .before .before .before .before .before in
+    let s = c .before .before .before .before .before .before .before .before .before .before .before .before .before .before .before .before .before .before in
     let at = c .before .before .before .before .before .before .before .loop in
     let l : at .j < s .args .part .locks = c .before .before .before .before .before .if1 .taken in
-    let columns = c .before .before .before .before .before .before .before .before .before .before .before .before .before .before .before .columns-of in
-    let locks = c .before .before .before .before .before .before .before .before .before .before .before .before .locks-of in
-    let found = c .before .before .lowest-within .ensures in
+    let columns = c .before .before .before .before .before .before .before .before .before .before .before .before .before .before .before .before .columns-of in
+    let locks = c .before .before .before .before .before .before .before .before .before .before .before .before .before .locks-of in
+    let found = c .before .before .ceiling-within .ensures in
     let is = c .ceiling-or-0 .ensures ∙ ap ceilingOr0 (found .0) ∙ shown-by-column (s .args .part) (s .pre .0) (columns .result) (columns .ensures) (locks .result) (locks .ensures) (s .args .x) (at .j) l in
     (omega arith, store-step _ _ _ (at .ceilings) (at .j) _ (at .inv .1) (omega (arith, s .pre .0 .few-locks, s .pre .1)) is, found .1)
 
@@ -119,13 +122,14 @@ show-ceilings-spec =
     mul-first
     no-hint-requires
     loop-holds
-    mul-lowest-within
-    array-read-lowest-within
-    mul-lowest-within-2
-    array-read-lowest-within-2
-    mul-lowest-within-3
-    array-read-lowest-within-3
-    lowest-within-requires
+    mul-ceiling-within
+    array-read-ceiling-within
+    mul-ceiling-within-2
+    array-read-ceiling-within-2
+    mul-ceiling-within-3
+    array-read-ceiling-within-3
+    array-read-ceiling-within-4
+    ceiling-within-requires
     ceiling-or-0-requires
     add-ceilings
     mul-ceilings

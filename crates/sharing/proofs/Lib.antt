@@ -1,0 +1,4 @@
+pub mod Counting
+pub mod Marks
+pub mod Gathered
+pub mod Named
