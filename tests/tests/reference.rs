@@ -1259,6 +1259,26 @@ fn m100_one_more_private_lock_never_makes_a_load_greater() {
     );
 }
 
+/// The part without a budget, if the file is refused for that.
+fn without_budget(file: &[u8]) -> Option<usize> {
+    let refusal = plan(file, PROGRAM_ROOM).err()?;
+    (refusal.number == 10).then_some(refusal.place)
+}
+
+#[test]
+fn m100_one_more_private_lock_gives_no_part_a_budget() {
+    let mut refused = 0;
+    for file in small_files(18, 3000) {
+        let part = without_budget(&file);
+        for (of, lock, _) in locks_of(&file).iter().filter(|(_, _, shared)| *shared) {
+            let other = with_lock_renamed(&file, *of, lock, "other");
+            assert_eq!(without_budget(&other), part, "{lock} of\n{}", lossy(&file));
+            refused += usize::from(part.is_some());
+        }
+    }
+    assert!(refused > 100, "{refused} refused with 10");
+}
+
 // ---- readings of the numbers ----
 
 #[test]
