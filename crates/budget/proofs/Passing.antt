@@ -55,6 +55,10 @@ pub task-mono-Q : (P Q R b : ℕ) (task : Task) (higher : List Task) → 1 ≤ Q
 task-mono-Q P Q R b task higher o l u t =
     taskPasses-iff P R b task higher .1 (met-more P Q R b b task higher o l u (le-refl b) (taskPasses-iff P Q b task higher .0 t))
 
+pub task-less-blocking : (P Q b c : ℕ) (task : Task) (higher : List Task) → 1 ≤ Q → Q ≤ P → c ≤ b → taskPasses P Q b task higher ≡ true → taskPasses P Q c task higher ≡ true
+task-less-blocking P Q b c task higher o u l t =
+    taskPasses-iff P Q c task higher .1 (met-more P Q Q b c task higher o (le-refl Q) u l (taskPasses-iff P Q b task higher .0 t))
+
 -- the same of a part: ceilings that are no higher block no more
 pub passes-more : (v : Partition) (σ τ : Setting) (Q R : ℕ) → 1 ≤ Q → Q ≤ R → R ≤ v .period
     → ((l : ℕ) → 1 ≤ l → l ≤ v .locks → τ l ≤ σ l) → passes v σ Q ≡ true → passes v τ R ≡ true

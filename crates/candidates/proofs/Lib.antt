@@ -5,6 +5,8 @@ pub mod Candidates
 pub mod Shown
 pub mod Walk
 pub mod Count
+pub mod Levels
+pub mod Few
 pub mod Known
 pub mod Settle
 pub mod Pairs

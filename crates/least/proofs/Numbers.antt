@@ -1,4 +1,4 @@
--- Laws of the numbers of the elements that pass a test: one element more, the greatest of them, how many there are, and each of them.
+-- Laws of the numbers of the elements that pass a test: one element more, the greatest of them, where the elements stand, how many there are, and each of them.
 -- Assumes nothing.
 use Prim.Native.Nat.{ℕ, zero, suc, _+_, _≤_, _<_}
 use native.Mathlib.Omega.{arith}
@@ -37,6 +37,24 @@ module _ {A : Type 0} (test : A → Bool) where
       go : suc i ≤ greatest (numbersFrom (suc i) test ys) → (b : Bool) → test y ≡ b → i ≤ greatest (numbersFrom i test (y ∷ ys))
       go ih true t = rw (numbers-pass i y ys t) (omega arith)
       go ih false t = rw (numbers-fail i y ys t) (omega arith)
+
+  -- those behind the first element have no greater numbers than all
+  numbers-behind : (i : ℕ) (x : A) (xs : List A) → greatest (numbersFrom (suc i) test xs) ≤ greatest (numbersFrom i test (x ∷ xs))
+  unfolding greatest
+  numbers-behind i x xs = go (test x) refl
+    where
+      go : (b : Bool) → test x ≡ b → greatest (numbersFrom (suc i) test xs) ≤ greatest (numbersFrom i test (x ∷ xs))
+      go true t = rw (numbers-pass i x xs t) (omega arith)
+      go false t = rw (numbers-fail i x xs t) (omega arith)
+
+  -- where no number is above i, those that pass stand among the first i
+  front-from : (a i : ℕ) {x : A} (xs : List A) → List·Memᴰ x xs → test x ≡ true → greatest (numbersFrom (suc a) test xs) ≤ a + i → List·Memᴰ x (take i xs)
+  front-from a zero xs m p h = absurd (omega (arith, numbers-some (suc a) xs m p))
+  front-from a (suc i) (y ∷ ys) (List·Memᴰ·head q) p h = List·Memᴰ·head q
+  front-from a (suc i) (y ∷ ys) (List·Memᴰ·tail m) p h = List·Memᴰ·tail (front-from (suc a) i ys m p (omega (arith, numbers-behind (suc a) y ys)))
+
+  pub numbers-front : (i : ℕ) {x : A} (xs : List A) → List·Memᴰ x xs → test x ≡ true → greatest (numbersFrom 1 test xs) ≤ i → List·Memᴰ x (take i xs)
+  numbers-front i xs m p h = front-from 0 i xs m p (omega arith)
 
   pub numbers-length : (i : ℕ) (xs : List A) → length (numbersFrom i test xs) ≡ length (those test xs)
   unfolding numbersFrom those

@@ -7,12 +7,12 @@ use native.Mathlib.Decide.{decLe}
 use mathlib.Core.Path.{_≡_, refl, ap, _∙_}
 use mathlib.Core.Logic.{⊎-elim}
 use mathlib.Core.List.{List, List·Memᴰ, Memᴰ·map}
-use lib.ListN.{length, take, getD, length-take, length-reverse}
+use lib.ListN.{length, take, getD}
 use borrow.Author.Tests.{le-leb, lt-leb}
 use Rattle.least.specs.Lists.{countFrom}
 use Rattle.least.proofs.Lists.{count-from, count-to, map-iff}
 use Rattle.least.proofs.Greatest.{greatest-each, greatest-le}
-use Rattle.least.proofs.Members.{take-member, reverse-iff}
+use Rattle.least.proofs.Members.{reverse-iff}
 use Rattle.refusal.specs.Limits.{numberLimit}
 use Rattle.task_set.specs.declared.Task.{Task}
 use Rattle.task_set.specs.declared.Part.{Part}
@@ -24,6 +24,7 @@ use Rattle.task_set.specs.Code.ByLock.{LongestBelow, blockedFor, blockin
 use Rattle.task_set.proofs.Places.{tasks-length, tasks-take, held-at}
 use Rattle.task_set.proofs.Blocking.{Reaches, Blocks, blocking-paper}
 use Rattle.task_set.proofs.ByLock.{held-most}
+use Rattle.task_set.proofs.Users.{lower-among, lower-count}
 
 pub blocked-for-is : (ceiling c i : ℕ) → i < ceiling → blockedFor ceiling c i ≡ c
 blocked-for-is ceiling c i h = rw (le-leb (suc i) ceiling h) refl
@@ -43,12 +44,9 @@ pub blocking-most : (p : Part) → FinePart p → (σ : Setting) (lower : List T
 blocking-most p fine σ lower among =
     ⊎-elim (λ z. omega (arith, z)) (λ r. let k = r .2 .1 in omega (arith, r .3, held-most p fine (r .1) (k .from) (k .upto) (r .0) (among (r .0) (r .2 .0)))) (blocking-paper (p .locks) σ lower .1)
 
-lower-among : (i : ℕ) (ts : List Task) (t : Task) → List·Memᴰ t (lowerThan i ts) → List·Memᴰ t ts
-lower-among i ts t m = take-member i ts (reverse-iff t (take i ts) .0 m)
-
 module _ (p : Part) (fine : FinePart p) (i : ℕ) (here : i < p .count) where
   lower-length : length (lowerThan i (tasksOf p)) ≡ i
-  lower-length = length-reverse (take i (tasksOf p)) ∙ omega (arith, length-take i (tasksOf p), tasks-length p fine)
+  lower-length = lower-count (tasksOf p) i (omega (arith, tasks-length p fine))
 
   -- a task of the struct below the place i is one of them, and they are no others
   lower-of : (u : Task) → List·Memᴰ u (take i (p .tasks)) → List·Memᴰ (withLocks (p .locks) u) (lowerThan i (tasksOf p))
@@ -102,4 +100,4 @@ module _ (p : Part) (fine : FinePart p) (i : ℕ) (here : i < p .count) where
     blocking-same = ⊎-elim (λ z. omega (arith, z, by-most)) (λ r. omega (arith, r .3, by-most, reached-most (r .0) (r .1) (r .2))) (blocking-paper (p .locks) (settingOf ceilings) (lowerThan i (tasksOf p)) .1)
 
     pub blocking-small : blockingBy table ceilings (p .locks) i ≤ numberLimit
-    blocking-small = omega (arith, blocking-same, blocking-most p fine (settingOf ceilings) (lowerThan i (tasksOf p)) (lower-among i (tasksOf p)))
+    blocking-small = omega (arith, blocking-same, blocking-most p fine (settingOf ceilings) (lowerThan i (tasksOf p)) (lower-among (tasksOf p) i))

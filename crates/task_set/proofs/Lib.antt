@@ -6,4 +6,5 @@ pub mod Times
 pub mod ByColumn
 pub mod ByLock
 pub mod Below
+pub mod Users
 pub mod BlockingAt
