@@ -1,5 +1,4 @@
--- How many different X a part can have: each smaller X raises a ceiling that is shown, so a falling list of X has at most 1 + m·(n − 1) numbers, and a list of
--- candidates in falling X as many pairs.
+-- How many different X a part can have: each smaller X raises a ceiling that is shown, so a falling list of X has at most 1 + m·(n − 1) numbers.
 --   raised v σ == Σ over the locks of the ceiling above the lock's lowest
 --   Used v     == every lock has a user
 --   HasX v x   == x is the X of a permitted setting
@@ -7,29 +6,24 @@
 use Prim.Native.Nat.{ℕ, _+_, _-_, _*_, _≤_, _<_}
 use native.Mathlib.Nat.{le-of-eq, le-trans, eq-or-lt-of-le, mul-le-mul-right}
 use native.Mathlib.Omega.{arith}
-use mathlib.Core.Path.{_≡_, refl, ap, subst}
+use mathlib.Core.Path.{_≡_, refl, ap}
 use mathlib.Core.Logic.{_⊎_, inl, inr, ⊎-elim}
-use mathlib.Core.List.{List, [], _∷_, map, List·Memᴰ, List·Memᴰ·head, List·Memᴰ·tail, Memᴰ·of-map}
-use lib.ListN.{length, length-map}
+use mathlib.Core.List.{List, [], _∷_, map, List·Memᴰ, List·Memᴰ·head, List·Memᴰ·tail}
+use lib.ListN.{length}
 use Rattle.least.specs.declared.Least.the-variants.{At}
 use Rattle.least.specs.Lists.{sum, range}
-use Rattle.least.proofs.Round.{product}
 use Rattle.least.proofs.Lists.{range-iff}
-use Rattle.least.proofs.Pairwise.{Pairwise, pairwise-map}
+use Rattle.least.proofs.Pairwise.{Pairwise}
 use Rattle.least.proofs.Sums.{sum-rises, sum-most, length-range}
-use Rattle.refusal.specs.Limits.{keptLimit}
 use Rattle.task_set.specs.declared.Task.{Task}
 use Rattle.task_set.specs.Tasks.{lowestCeiling}
 use Rattle.task_set.specs.Partition.{Partition}
 use Rattle.task_set.specs.Blocking.{Setting}
 use Rattle.holding.specs.Holding.{holdingTimeOf}
 use Rattle.holding.proofs.Holding.{Ranged, inRange-paper, highest-most, countedTime, holdingTime-paper}
-use Rattle.candidates.specs.declared.Pair.{Pair}
-use Rattle.candidates.specs.Candidates.{keptList, shownCeiling}
-use Rattle.candidates.specs.Statement.{Permitted, Candidate}
-use Rattle.candidates.proofs.Candidates.{kept-iff, kept-falls}
+use Rattle.candidates.specs.Candidates.{shownCeiling}
+use Rattle.candidates.specs.Statement.{Permitted}
 use Rattle.candidates.proofs.Shown.{Within, permitted-within, shown-under, shown-permitted, shown-holding, shown-exact}
-use Rattle.candidates.proofs.Walk.{Above, falling-pairwise, WalkedFrom}
 
 -- how far the ceiling of lock l is above the lowest
 abbrev above : List Task → Setting → ℕ → ℕ
@@ -84,9 +78,6 @@ pub record HasX (v : Partition) (x : ℕ) : Type 0 where
   pub allowed : Permitted v setting
   pub holding : holdingTimeOf v setting ≡ x
 
-pub candidate-has-x : {v : Partition} (c : Pair) → Candidate v c → HasX v (c .holding)
-candidate-has-x c q = record { setting = q .setting; allowed = q .allowed; holding = q .holding }
-
 module _ (v : Partition) where
   raised-next : (x y : ℕ) → HasX v x → HasX v y → y < x → raised v (shownCeiling v x) < raised v (shownCeiling v y)
   raised-next x y p q l =
@@ -110,28 +101,3 @@ module _ (v : Partition) where
     pub x-count : (xs : List ℕ) → Pairwise (λ x y. y < x) xs → ((y : ℕ) → List·Memᴰ y xs → HasX v y) → length xs ≤ 1 + v .locks * (length (v .tasks) - 1)
     x-count [] p all = omega arith
     x-count (x ∷ xs) p all = omega (arith, count-raised x xs p all)
-
-    -- so of candidates in falling X
-    abbrev holdings : List Pair → List ℕ
-    holdings cs = map (λ c. c .holding) cs
-
-    falling-holdings : {cs : List Pair} → Pairwise Above cs → Pairwise (λ x y. y < x) (holdings cs)
-    falling-holdings Pairwise.none = Pairwise.none
-    falling-holdings (Pairwise.more {x = c} {xs = cs} h p) = Pairwise.more {x = c .holding} (λ y k. let d = Memᴰ·of-map (λ (c : Pair). c .holding) cs k in omega (arith, d .2, h (d .0) (d .1))) (falling-holdings p)
-
-    pub candidates-count : (cs : List Pair) → Pairwise Above cs → ((d : Pair) → List·Memᴰ d cs → Candidate v d) → length cs ≤ 1 + v .locks * (length (v .tasks) - 1)
-    candidates-count cs p all =
-        omega (arith, length-map cs (λ c. c .holding), x-count (holdings cs) (falling-holdings p) (λ y k. let d = Memᴰ·of-map (λ (c : Pair). c .holding) cs k in subst (HasX v) (d .2) (candidate-has-x (d .0) (all (d .0) (d .1)))))
-
-    pub walked-count : (e : ℕ) (cs : List Pair) → WalkedFrom v e cs → length cs ≤ 1 + v .locks * (length (v .tasks) - 1)
-    walked-count e cs w = candidates-count cs (pairwise-map (λ c d k j b. b .holding) (w .ordered)) (w .candidates)
-
-    pub kept-count : length (keptList v) ≤ 1 + v .locks * (length (v .tasks) - 1)
-    kept-count = candidates-count (keptList v) (falling-pairwise (kept-falls v)) (λ c k. kept-iff v c .0 k .candidate)
-
--- eight locks and sixteen tasks at most
-pub count-121 : (m n : ℕ) → m ≤ 8 → n ≤ 16 → 1 + m * (n - 1) ≤ keptLimit
-count-121 m n a b = let h : n - 1 ≤ 15 = omega arith in omega (arith, product 8 15 a h)
-
-pub kept-121 : (v : Partition) → Used v → v .locks ≤ 8 → length (v .tasks) ≤ 16 → length (keptList v) ≤ keptLimit
-kept-121 v used a b = le-trans (kept-count v used) (count-121 (v .locks) (length (v .tasks)) a b)

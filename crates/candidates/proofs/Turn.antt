@@ -18,7 +18,6 @@ use Rattle.task_set.specs.declared.Task.{Task}
 use Rattle.task_set.specs.declared.Part.{Part}
 use Rattle.task_set.specs.declared.Columns.{Columns}
 use Rattle.task_set.specs.declared.Locks.{Locks}
-use Rattle.task_set.specs.Code.Tasks.{tasksOf}
 use Rattle.task_set.specs.Partition.{isShared}
 use Rattle.task_set.specs.Code.Partition.{partitionOf}
 use Rattle.task_set.specs.Blocking.{Setting}
@@ -26,7 +25,6 @@ use Rattle.task_set.specs.Code.Fine.{FinePart}
 use Rattle.task_set.specs.Code.ByColumn.{timesOf, ColumnsAre}
 use Rattle.task_set.specs.Code.ByLock.{LocksAre, LongestBelow, blockingBy, settingOf}
 use Rattle.task_set.proofs.Places.{tasks-length, tasks-place, shared-at}
-use Rattle.task_set.proofs.ByLock.{lowest-some}
 use Rattle.holding.specs.declared.Ceiling.the-variants.{Held}
 use Rattle.holding.specs.Holding.{holdingTimeOf}
 use Rattle.holding.proofs.Holding.{highest-most}
@@ -42,7 +40,7 @@ use Rattle.candidates.specs.Statement.{Permitted, Candidate}
 use Rattle.candidates.specs.Code.KeptSearch.{firstTime, FirstTimes, budgetStep, BudgetIs}
 use Rattle.candidates.proofs.Shown.{deadlines-holding, shown-budget}
 use Rattle.candidates.proofs.Walk.{pushed, WalkedFrom, Walked, walk-start, walk-push, walk-next, walk-missed, walk-no-budget}
-use Rattle.candidates.proofs.Count.{Used, walked-count, count-121}
+use Rattle.candidates.proofs.Few.{walked-most}
 use Rattle.candidates.proofs.Known.{shownAt, Known, shown-held, shown-missed, private-shown}
 use Rattle.candidates.proofs.Settle.{AllShown, AllKnown, next-at, shown-permitted, shown-most, setting-agrees, holding-greatest}
 use Rattle.candidates.proofs.Lowest.{Tested, lowest-range, lowest-tested, lowest-found, lowest-missed}
@@ -74,12 +72,8 @@ module _ (p : Part) (fine : FinePart p) where
   candidate-small d q =
       (budget-iff (partitionOf p) (q .setting) (d .budget) .0 (q .budget) .1, omega (arith, q .holding, holding-small (q .setting) (q .allowed)))
 
-  used : Used (partitionOf p)
-  used = lowest-some p fine
-
   pub walked-few : (e : ℕ) (cs : List Pair) → WalkedFrom (partitionOf p) e cs → length cs ≤ keptLimit
-  walked-few e cs w =
-      le-trans (walked-count (partitionOf p) used e cs w) (count-121 (p .locks) (length (tasksOf p)) (fine .few-locks) (omega (arith, tasks-length p fine, fine .few)))
+  walked-few e cs w = omega (arith, walked-most (partitionOf p) e cs w, tasks-length p fine, fine .few)
 
 module _ (p : Part) (fine : FinePart p) (c : Columns) (k : Locks) (locks : LocksAre p k) where
   first-known : (times : List ℕ) → FirstTimes (p .shared) times → (j : ℕ) → j < p .locks → Known (partitionOf p) numberLimit (suc j) (getD (k .lowest) j 0) (getD times j 0)

@@ -24,11 +24,11 @@ use Rattle.task_set.specs.Blocking.{Setting}
 use Rattle.holding.specs.Holding.{holdingTimeOf}
 use Rattle.budget.specs.Budget.{leastBudget}
 use Rattle.candidates.specs.declared.Pair.{Pair}
-use Rattle.candidates.specs.Candidates.{pair, keptList, shownCeiling}
-use Rattle.candidates.specs.Statement.{Permitted, Candidate, IsKept}
+use Rattle.candidates.specs.Candidates.{pair, candidatesIn, keptAmong, keptList, shownCeiling}
+use Rattle.candidates.specs.Statement.{Permitted, Candidate}
 use Rattle.candidates.proofs.Falling.{Falling}
-use Rattle.candidates.proofs.Keeping.{pair-same, NoWorse, Covered}
-use Rattle.candidates.proofs.Candidates.{kept-iff, kept-falls}
+use Rattle.candidates.proofs.Keeping.{pair-same, NoWorse, Alone, Covered, keptAmong-iff, keptAmong-falls}
+use Rattle.candidates.proofs.Candidates.{candidate-iff}
 use Rattle.candidates.proofs.Shown.{lowestWithin, found-none, candidate-shown, no-budget-below}
 
 abbrev pub sumOf : Pair → ℕ
@@ -64,37 +64,50 @@ no-worse-same c d e h k (inl q) =
 no-worse-same c d e h k (inr (inl b)) = absurd (omega arith)
 no-worse-same c d e h k (inr (inr b)) = absurd (omega arith)
 
-module _ (v : Partition) where
-  behind-kept : (c d : Pair) → IsKept v c → IsKept v d → d .holding < c .holding → Behind c d
+-- what is kept of any list of pairs
+module _ (all : List Pair) where
+  abbrev Kept : Pair → Type 0
+  Kept c = List·Memᴰ c all × Alone all c
+
+  behind-kept : (c d : Pair) → Kept c → Kept d → d .holding < c .holding → Behind c d
   behind-kept c d k j l = go (decLt (sumOf c) (sumOf d))
     where
       go : Dec (sumOf c < sumOf d) → Behind c d
       go (yes h) = record { holding = l; sum = h }
-      go (no h) = absurd (omega (arith, ap (λ p. p .holding) (k .alone d (j .candidate) (omega arith) (omega arith))))
+      go (no h) = absurd (omega (arith, ap (λ p. p .holding) (k .1 d (j .0) (record { holding = omega arith; sum = omega arith }))))
 
-  -- along the kept list X falls and Q+X rises
-  pub kept-ordered : Pairwise Behind (keptList v)
-  kept-ordered =
-      pairwise-map (λ c d k j l. behind-kept c d (kept-iff v c .0 k) (kept-iff v d .0 j) l) (falling-pairwise (kept-falls v))
+  -- along it X falls and Q+X rises
+  pub among-ordered : Pairwise Behind (keptAmong all)
+  among-ordered =
+      pairwise-map (λ c d k j l. behind-kept c d (keptAmong-iff all c .0 k) (keptAmong-iff all d .0 j) l) (falling-pairwise (keptAmong-falls all))
 
-  -- A list of candidates that has one beside each candidate that is no worse, with X falling and Q+X rising along it, is the kept list.
-  module _ (cs : List Pair) (candidates : (c : Pair) → List·Memᴰ c cs → Candidate v c) (ordered : Pairwise Behind cs) (covers : (d : Pair) → Candidate v d → Covered cs d) where
-    into-kept : (c : Pair) → List·Memᴰ c cs → List·Memᴰ c (keptList v)
-    into-kept c k = kept-iff v c .1 (record { candidate = candidates c k; alone = alone })
+  -- Some of the pairs, with one beside each that is no worse, with X falling and Q+X rising along them, are what is kept.
+  module _ (cs : List Pair) (from : (c : Pair) → List·Memᴰ c cs → List·Memᴰ c all) (ordered : Pairwise Behind cs) (covers : (d : Pair) → List·Memᴰ d all → Covered cs d) where
+    into-kept : (c : Pair) → List·Memᴰ c cs → List·Memᴰ c (keptAmong all)
+    into-kept c k = keptAmong-iff all c .1 (from c k, alone)
       where
-        alone : (d : Pair) → Candidate v d → d .holding ≤ c .holding → sumOf d ≤ sumOf c → d ≡ c
-        alone d q x s =
-            let e = covers d q in
-            no-worse-same c d (e .0) (record { holding = x; sum = s }) (e .2) (pairwise-members ordered (e .1) k)
+        alone : Alone all c
+        alone d q n = let e = covers d q in no-worse-same c d (e .0) n (e .2) (pairwise-members ordered (e .1) k)
 
-    from-kept : (c : Pair) → List·Memᴰ c (keptList v) → List·Memᴰ c cs
+    from-kept : (c : Pair) → List·Memᴰ c (keptAmong all) → List·Memᴰ c cs
     from-kept c k =
-        let i = kept-iff v c .0 k in
-        let e = covers c (i .candidate) in
-        Memᴰ·cast (sym (i .alone (e .0) (candidates (e .0) (e .1)) (e .2 .holding) (e .2 .sum))) (e .1)
+        let i = keptAmong-iff all c .0 k in
+        let e = covers c (i .0) in
+        Memᴰ·cast (sym (i .1 (e .0) (from (e .0) (e .1)) (e .2))) (e .1)
 
-    pub kept-criterion : cs ≡ keptList v
-    kept-criterion = pairwise-unique Behind behind-once cs (keptList v) ordered kept-ordered into-kept from-kept
+    pub among-criterion : cs ≡ keptAmong all
+    among-criterion = pairwise-unique Behind behind-once cs (keptAmong all) ordered among-ordered into-kept from-kept
+
+-- the same of the candidates of a part
+module _ (v : Partition) where
+  pub kept-ordered : Pairwise Behind (keptList v)
+  unfolding keptList
+  kept-ordered = among-ordered (candidatesIn v)
+
+  pub kept-criterion : (cs : List Pair) → ((c : Pair) → List·Memᴰ c cs → Candidate v c) → Pairwise Behind cs → ((d : Pair) → Candidate v d → Covered cs d) → cs ≡ keptList v
+  unfolding keptList
+  kept-criterion cs candidates ordered covers =
+      among-criterion (candidatesIn v) cs (λ c k. candidate-iff v c .1 (candidates c k)) ordered (λ d m. covers d (candidate-iff v d .0 m))
 
 -- the pairs with a sum below s
 abbrev pub lighter : ℕ → List Pair → List Pair

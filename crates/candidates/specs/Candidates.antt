@@ -4,6 +4,7 @@
 --   candidatesIn v        == the candidates of all settings
 --   isKept cs c           == no other (Q,X) of the list cs has X no greater and Q+X no greater
 --   keptList v            == the kept candidates, in falling X
+--   keptFrom v e          == the same of the candidates with X at least e
 --   keptAnswer cs         == a list as the answer has it: up to keptLimit pairs, zeros in the places behind them, and their count
 --   shownCeiling v x l    == the ceiling shown for lock l: the lowest whose w is at most x and permitted; a private lock is listed with its lowest ceiling
 -- Assumes nothing.
@@ -78,6 +79,9 @@ keptAmong cs = inFallingX (those (isKept cs) cs)
 
 unfoldable pub keptList : Partition → List Pair
 keptList v = keptAmong (candidatesIn v)
+
+unfoldable pub keptFrom : Partition → ℕ → List Pair
+keptFrom v e = keptAmong (those (λ c. leb e (c .holding)) (candidatesIn v))
 
 unfoldable pub keptAnswer : List Pair → Kept
 keptAnswer cs = record { pairs = pad keptLimit (pair 0 0) cs; count = length cs }

@@ -13,18 +13,17 @@ use Rattle.least.proofs.Pad.{getD-pad}
 use Rattle.refusal.specs.Limits.{keptLimit}
 use Rattle.task_set.specs.Code.Partition.{partitionOf}
 use Rattle.task_set.proofs.Places.{tasks-length}
-use Rattle.task_set.proofs.ByLock.{lowest-some}
 use Rattle.candidates.specs.declared.Pair.{Pair}
 use Rattle.candidates.specs.declared.Kept.{Kept}
 use Rattle.candidates.specs.Candidates.{pair, keptAnswer}
-use Rattle.candidates.proofs.Count.{kept-121}
+use Rattle.candidates.proofs.Few.{kept-few}
 use Rattle.reader.specs.declared.PlanFile.{PlanFile}
 use Rattle.offers.specs.Code.Gathered.{partIn, listIn, FineParts, budgetIn, holdingIn, OfferedAt}
 
 pub list-most : (f : PlanFile) → FineParts f → (k : ℕ) → k < f .count → length (listIn f k) ≤ keptLimit
 list-most f fine k h =
     let p = fine .fine k h in
-    kept-121 (partitionOf (partIn f k)) (lowest-some (partIn f k) p) (p .few-locks) (omega (arith, tasks-length (partIn f k) p, p .few))
+    kept-few (partitionOf (partIn f k)) (omega (arith, tasks-length (partIn f k) p, p .few))
 
 -- the parts up to the place k are there
 pub record GatheredTo (f : PlanFile) (periods counts budgets holdings : List ℕ) (k : ℕ) : Type 0 where

@@ -4,18 +4,14 @@ use Prim.Native.Nat.{ℕ, zero, suc, _≤_, _<_}
 use native.Mathlib.Omega.{arith}
 use mathlib.Core.Path.{_≡_, refl, sym, ap, _∙_, subst}
 use mathlib.Core.Bool.{true, false, not, false≢true}
-use mathlib.Core.Logic.{_↔_, ⊎-elim}
+use mathlib.Core.Logic.{_↔_}
 use mathlib.Core.List.{List, [], _∷_, List·Memᴰ, List·Memᴰ·head}
-use borrow.Author.Tests.{le-leb}
 use lib.ListN.{length}
 use Rattle.least.specs.Lists.{isEmpty, nthOr, pad}
-use Rattle.least.proofs.Greatest.{greatest-reached}
 use Rattle.least.proofs.Lists.{nth-get, nth-member}
 use Rattle.least.proofs.Members.{place-of}
-use Rattle.least.proofs.Numbers.{numbers-some}
 use Rattle.least.proofs.Pairwise.{Pairwise, pairwise-unique}
 use Rattle.refusal.specs.Limits.{keptLimit}
-use Rattle.task_set.specs.Tasks.{heldFor, uses, lowestCeiling, greatestHeld}
 use Rattle.task_set.specs.Blocking.{Setting}
 use Rattle.task_set.specs.Partition.{Partition}
 use Rattle.budget.proofs.Passing.{budget-iff}
@@ -23,10 +19,7 @@ use Rattle.candidates.specs.declared.Pair.{Pair}
 use Rattle.candidates.specs.declared.Kept.{Kept}
 use Rattle.candidates.specs.Candidates.{pair, keptAnswer, keptList}
 use Rattle.candidates.proofs.Candidates.{kept-iff, kept-falls, kept-none}
-use Rattle.candidates.proofs.Count.{Used, kept-121}
 use Rattle.candidates.proofs.Walk.{Above, falling-pairwise}
-use Rattle.plan_file.specs.Numbers.{PlanPart}
-use Rattle.plan_file.proofs.PlanParts.{FinePlanPart}
 use Rattle.answers.specs.Choice.{Budgeted, WithoutBudget}
 use Rattle.planner.specs.Numbers.{KeptIs}
 
@@ -105,14 +98,3 @@ module _ (v : Partition) where
           let d = kept-iff v c .0 (subst (List·Memᴰ c) (sym q) (List·Memᴰ·head refl)) .candidate in
           let l = budget-iff v (d .setting) (c .budget) .0 (d .budget) in
           (d .setting, c .budget, record { allowed = d .allowed; some = l .0 .positive; most = l .1; passing = l .0 .passes })
-
--- every lock of a part of a readable file has a user, and its kept pairs are few
-module _ (p : PlanPart) (fine : FinePlanPart p) where
-  lock-used : Used (p .numbers)
-  unfolding lowestCeiling greatestHeld
-  lock-used l a b =
-      let some = fine .each-lock l a b in
-      ⊎-elim (λ z. absurd (omega arith)) (λ r. numbers-some (uses l) 1 (p .numbers .tasks) (r .1) (le-leb 1 (heldFor l (r .0)) (omega (arith, r .2)))) (greatest-reached (heldFor l) (p .numbers .tasks))
-
-  pub kept-few : length (keptList (p .numbers)) ≤ keptLimit
-  kept-few = kept-121 (p .numbers) lock-used (fine .few-locks) (fine .few-tasks)

@@ -27,6 +27,7 @@ use Rattle.load.specs.declared.Row.{Row}
 use Rattle.load.specs.Weigh.{weighQuestions, weighed, weighOf, rowsOf, structQuestions, weighRows}
 use Rattle.candidates.specs.declared.Pair.{Pair}
 use Rattle.candidates.specs.Candidates.{pair, keptAnswer, keptList}
+use Rattle.candidates.proofs.Few.{kept-few}
 use Rattle.plan_file.specs.Numbers.{PlanPart, partsOf, noPlanPart, partAt}
 use Rattle.plan_file.specs.PartLines.{linesOfPart}
 use Rattle.plan_file.proofs.PlanParts.{FinePlanPart, parts-fine}
@@ -38,7 +39,7 @@ use Rattle.planner.specs.Refusals.{PartOf, SupplyFits}
 use Rattle.planner.specs.Numbers.{KeptIs, SameNamed, NameAt, notWeighed, EveryNumber}
 use Rattle.planner.proofs.Local.{candidates-kept, candidates-local}
 use Rattle.planner.proofs.Weighing.{weighed-outcome, weighOf-is}
-use Rattle.planner.proofs.KeptList.{kept-is, no-budget-iff, some-budget, kept-few}
+use Rattle.planner.proofs.KeptList.{kept-is, no-budget-iff, some-budget}
 use Rattle.planner.proofs.Names.{name-stretch}
 use Rattle.planner.proofs.Refusals.{number-iff, candidates-read, candidates-unread, name-read, supply-fits}
 
@@ -89,7 +90,7 @@ module _ (s : List ℕ) (k : ℕ) where
     kept-of-part : KeptIs (p .numbers) (candidateList (candidatesOf s k) .kept)
     kept-of-part =
         rw (candidates-kept s k (d .parts) (reads d) (d .from) (d .to), d .is)
-        (kept-is (p .numbers) (kept-few p (subst FinePlanPart (d .is) (parts-fine s (d .parts) (reads d) (partAt (d .parts) k) (nth-member noPlanPart k (d .parts) (d .from) (d .to))))))
+        (kept-is (p .numbers) (kept-few (p .numbers) (subst FinePlanPart (d .is) (parts-fine s (d .parts) (reads d) (partAt (d .parts) k) (nth-member noPlanPart k (d .parts) (d .from) (d .to))) .few-tasks)))
 
     -- name
     name-given : nameOf s k ≡ answered (p .name)

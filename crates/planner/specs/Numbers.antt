@@ -1,6 +1,6 @@
 -- Demand 2, its half about numbers: what every number of an answer is, by the paper's sentence. The holding times, blockings and budgets of the kept
 -- pairs are in LocalTest; what a plan prints is demand 3.
---   KeptIs v a      == a has the kept pairs of the partition v, in falling X, up to 121, and their count
+--   KeptIs v a      == a has the kept pairs of the partition v, in falling X, up to 16, and their count
 --   SameNamed d e   == of two parts, another part of its file names each lock of the one in both files or in none
 --   NameAt s k p n  == n is the stretch of the name of part k, which is p, on its `part` line
 --   EveryNumber     == the numbers of the five operations, answered and refused
@@ -46,7 +46,7 @@ pub record KeptIs (v : Partition) (a : Kept) : Type 0 where
   pub members : (c : Pair) → List·Memᴰ c list ↔ IsKept v c
   -- in falling X
   pub falling : (i j : ℕ) → 1 ≤ i → i < j → j ≤ length list → nthOr (pair 0 0) j list .holding < nthOr (pair 0 0) i list .holding
-  -- up to 121 pairs
+  -- up to 16 pairs
   pub few : length list ≤ keptLimit
   pub count : a .count ≡ length list
   -- in their places, and unused places are zero

@@ -5,7 +5,7 @@
 --   rowLimit    == rows to be weighed
 --   nameLimit   == bytes in a name
 -- And one about which no question asks, as every part keeps it:
---   keptLimit   == pairs in the kept list of a part
+--   keptLimit   == pairs in the kept list of a part: it has no more than the part has tasks
 -- Assumes nothing.
 use Prim.Native.Nat.{ℕ}
 
@@ -31,4 +31,4 @@ abbrev pub nameLimit : ℕ
 nameLimit = 8
 
 abbrev pub keptLimit : ℕ
-keptLimit = 121
+keptLimit = taskLimit

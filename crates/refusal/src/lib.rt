@@ -21,8 +21,8 @@ pub const ROW_LIMIT: usize = 16;
 // Bytes in a name.
 pub const NAME_LIMIT: usize = 8;
 
-// Pairs in the kept list of a part, and places for those of all parts.
-pub const KEPT_LIMIT: usize = 121;
+// Pairs in the kept list of a part, which has no more than the part has tasks; and places for those of all parts.
+pub const KEPT_LIMIT: usize = TASK_LIMIT;
 
 pub const OFFER_PLACES: usize = PART_LIMIT * KEPT_LIMIT;
 

@@ -16,7 +16,7 @@ use Rattle.least.specs.Lists.{greatest, smallest, those, numbersFrom}
 use Rattle.least.proofs.Lists.{smallest-member, those-pass, those-fail, those-iff, map-iff, nth-get}
 use Rattle.least.proofs.Greatest.{greatest-le, greatest-reached}
 use Rattle.least.proofs.Members.{drop-member}
-use Rattle.least.proofs.Numbers.{numbers-pass, numbers-fail, numbers-most, numbers-some}
+use Rattle.least.proofs.Numbers.{numbers-pass, numbers-fail, numbers-most}
 use Rattle.refusal.specs.Limits.{numberLimit}
 use Rattle.task_set.specs.declared.Task.{Task}
 use Rattle.task_set.specs.declared.Part.{Part}
@@ -186,10 +186,6 @@ module _ (p : Part) (fine : FinePart p) where
     user =
         let some = fine .used l from upto in
         ⊎-elim (λ z. absurd (omega arith)) (λ r. (r .0, r .1, le-leb 1 (heldFor l (r .0)) (omega (arith, r .2)))) (greatest-reached (heldFor l) (tasksOf p))
-
-    pub lowest-some : 1 ≤ lowestCeiling l (tasksOf p)
-    unfolding lowestCeiling
-    lowest-some = numbers-some (uses l) 1 (tasksOf p) (user .1) (user .2)
 
     pub lowest-most : lowestCeiling l (tasksOf p) ≤ p .count
     unfolding lowestCeiling
