@@ -41,6 +41,7 @@ THEOREMS = [
     ('supply', 'linear-under-supply', 'LinearUnderSupply'),
     ('first_principles', 'first-principles', 'FirstPrinciples'),
     ('private_locks', 'private-locks', 'PrivateLocks'),
+    ('kept_pairs', 'kept-pairs', 'KeptPairs'),
 ]
 # How many rows of the table of examples each letter of paper 01 has, and each request of paper 02 with examples there.
 ROWS = {'A': 1, 'B': 5, 'C': 2, 'D': 1, 'E': 1, 'F': 1, 'G': 1, 'H': 1, 'I': 1, 'J': 1, 'K': 5, 'L': 3, 'M100': 4}
@@ -305,8 +306,10 @@ def check_one_pass(top):
 
 # ---- each limit once
 
-# The limits, each with another number that is made of it: the number above it, or the places for all parts.
-LIMITS = {'numbers': (1_000_000, 1_000_001), 'bytes in a file': (32_768, 32_769), 'kept pairs': (121, 1936)}
+# The limits, each with the number above it.
+LIMITS = {'numbers': (1_000_000, 1_000_001), 'bytes in a file': (32_768, 32_769)}
+# The constants of the header that are limits of the code; that of kept pairs is there the limit of tasks (M113c).
+IN_HEADER = {'MOST_NUMBER': 'NUMBER_LIMIT', 'MOST_BYTES': 'FILE_LIMIT', 'MOST_PAIRS': 'KEPT_LIMIT', 'MOST_ROWS': 'ROW_LIMIT'}
 # A number as it is written down, with or without its type; and the limit as a power or a product.
 WRITTEN = re.compile(r'(?<![\w.])(0x[0-9a-fA-F_]+|[0-9][0-9_]*?)(?:_?[ui](?:8|16|32|64|size))?(?!\w)')
 MADE = re.compile(r'\b10 ?\^ ?6\b|\b1_?000 ?\* ?1_?000\b')
@@ -319,7 +322,7 @@ def written(text):
 
 def check_one_limit(top):
     """Each of LIMITS, that of numbers (M103b) among them, is written down once in the definitions, for everything that is asked, and once in the code; the programs that are tests, and the table of
-    examples, have their own."""
+    examples, have their own. The header's limits are those of the code."""
     for what, kind, tests in (('the definitions', 'specs/**/*.antt', {'examples'}), ('the code', 'src/**/*.rt', {'by_hand', 'scanned'})):
         places = [path for name in crates(top) if name not in tests for path in sorted((top / 'crates' / name).glob(kind))]
         numbers = [(str(path.relative_to(top)), number) for path in places for number in written(source(path))]
@@ -327,8 +330,12 @@ def check_one_limit(top):
             found = [path for path, number in numbers if number in values]
             if len(found) != 1 or not found[0].startswith('crates/refusal/'):
                 yield f'the limit of {limit} stands {len(found)} times in {what}, and must stand once, in refusal: ' + ', '.join(found)
-    if not re.search(r'^enum {.*\bPLANNER_MOST_NUMBER = 1000000\b', source(top / HEADER), re.M):
-        yield f'{HEADER}: PLANNER_MOST_NUMBER is not the limit of numbers'
+    code = dict(re.findall(r'^pub const (\w+): \w+ = (\w+);', source(top / 'crates/refusal/src/lib.rt'), re.M))
+    header = dict(re.findall(r'\bPLANNER_(\w+) = (\w+)', source(top / HEADER)))
+    for name, limit in IN_HEADER.items():
+        value = code.get(limit)
+        if not header.get(name) or header.get(name) != code.get(value, value):
+            yield f'{HEADER}: PLANNER_{name} is {header.get(name)}, and the limit {limit} of the code {code.get(value, value)}'
 
 
 # ---- theorems, examples, verdicts

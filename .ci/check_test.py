@@ -156,6 +156,7 @@ HEADER = """/* "no 15", PLANNER_MOST = 7 */
 #define PLANNER_VERSION_PATCH 3
 #define PLANNER_VERSION "1.2.3"
 enum { PLANNER_MOST_NUMBER = 1000000, PLANNER_ROOM = 8192 };
+enum { PLANNER_MOST_BYTES = 32768, PLANNER_MOST_PAIRS = 15, PLANNER_MOST_ROWS = 14 };
 enum {
     PLANNER_STACK_PLAN = 184 * 1024
 };
@@ -163,6 +164,9 @@ static const char *const texts[] = {
     """
 RUST = """/// The greatest number.
 pub const MOST_NUMBER: u64 = 1_000_000;
+pub const MOST_BYTES: usize = 32768;
+pub const MOST_PAIRS: usize = 15;
+pub const MOST_ROWS: usize = 14;
 
 /// Bytes.
 pub const ROOM: usize = 8192;
@@ -215,8 +219,8 @@ def right_tree():
         LOAD_CODE: 'ghost use Rattle.load.specs.Load.{_⊑_};\n',
         ROWS: ROWS_PAGE,
         'crates/examples/specs/Code/Spare.antt': 'abbrev pub spare : ℕ\nspare = 0\n',
-        LIMIT: 'abbrev pub numberLimit : ℕ\nnumberLimit = 1000000\nfileLimit = 32768\nabbrev pub keptLimit : ℕ\nkeptLimit = 121\n',
-        LIMIT_CODE: 'pub const NUMBER_LIMIT: u64 = 1000000;\npub const FILE_LIMIT: usize = 32768;\npub const KEPT_LIMIT: usize = 121;\n',
+        LIMIT: 'abbrev pub numberLimit : ℕ\nnumberLimit = 1000000\nfileLimit = 32768\nabbrev pub keptLimit : ℕ\nkeptLimit = taskLimit\n',
+        LIMIT_CODE: 'pub const NUMBER_LIMIT: u64 = 1000000;\npub const FILE_LIMIT: usize = 32768;\npub const TASK_LIMIT: usize = 15;\npub const KEPT_LIMIT: usize = TASK_LIMIT;\npub const ROW_LIMIT: usize = 14;\n',
         'crates/answers/specs/Answers.antt': HANDED,
         'crates/answers/specs/Choice.antt': 'pub record Choice : Type 0 where\n  pub rows : List Row\n',
         'crates/examples/specs/WrongPlanners.antt': 'use Rattle.planner.specs.Demand1.{Demand1, Demand3}\nabbrev pub ShutOut : Type 0\nShutOut = Demand3 → ⊥\n',
@@ -463,13 +467,15 @@ SLIPS = [
     *((check.check_one_limit, 'the limit of numbers stands 2 times in the code', 'crates/least/src/lib.rt', '', f'    if {most} < t {{\n') for most in ['1000000u64', '1_000_000_u64', '0xF4240', '1000 * 1000']),
     (check.check_one_limit, 'the limit of numbers stands 2 times in the definitions', 'crates/least/specs/Round.antt', '', 'most = 10 ^ 6\n'),
     (check.check_one_limit, 'the limit of numbers stands 0 times in the code', 'crates.txt', 'refusal: \n', ''),
-    (check.check_one_limit, 'the limit of kept pairs stands 2 times in the definitions', 'crates/least/specs/Round.antt', '', 'few : n ≤ 121\n'),
-    (check.check_one_limit, 'the limit of kept pairs stands 2 times in the code', 'crates/least/src/lib.rt', '', '    let places = [0u64; 1936];\n'),
-    (check.check_one_limit, 'the limit of kept pairs stands 0 times in the code', LIMIT_CODE, '121', '16'),
     (check.check_one_limit, 'the limit of bytes in a file stands 2 times in the code', 'crates/plan/src/main.rt', '', '    let mut file = [0u8; 32769];\n'),
     (check.check_one_limit, 'the limit of bytes in a file stands 0 times in the definitions', LIMIT, '32768', '65536'),
-    (check.check_one_limit, 'PLANNER_MOST_NUMBER is not the limit', interface.HEADER, '1000000', '65535'),
-    (check.check_one_limit, 'PLANNER_MOST_NUMBER is not the limit', interface.HEADER, 'enum { P', '// enum { P'),
+    (check.check_one_limit, 'PLANNER_MOST_NUMBER is 65535, and the limit NUMBER_LIMIT of the code 1000000', interface.HEADER, '1000000', '65535'),
+    (check.check_one_limit, 'PLANNER_MOST_NUMBER is None, and', interface.HEADER, 'enum { PLANNER_MOST_NUMBER', '// enum { PLANNER_MOST_NUMBER'),
+    (check.check_one_limit, 'PLANNER_MOST_PAIRS is 121, and the limit KEPT_LIMIT of the code 15', interface.HEADER, 'PAIRS = 15', 'PAIRS = 121'),
+    (check.check_one_limit, 'PLANNER_MOST_PAIRS is 15, and the limit KEPT_LIMIT of the code 121', LIMIT_CODE, '= TASK_LIMIT', '= 121'),
+    (check.check_one_limit, 'PLANNER_MOST_PAIRS is 15, and the limit KEPT_LIMIT of the code None', LIMIT_CODE, 'pub const KEPT', '// pub const KEPT'),
+    (check.check_one_limit, 'PLANNER_MOST_ROWS is 15, and the limit ROW_LIMIT of the code 14', interface.HEADER, 'ROWS = 14', 'ROWS = 15'),
+    (check.check_one_limit, 'PLANNER_MOST_BYTES is 32767, and the limit FILE_LIMIT of the code 32768', interface.HEADER, 'BYTES = 32768', 'BYTES = 32767'),
     *((check.check_believed, f'{ROWS}: {name} stands in Code/, and must be believed: {who} names it', path, old, new) for name, who, path, old, new in [
         ('noRow', 'load::weigh', LOAD_CODE, 'Load.{_⊑_}', 'Code.Rows.{noRow as _⊑_}'),
         ('noRow', 'every-line-scanned', 'crates/scan/proofs/Theorems.antt', '', 'use Rattle.load.specs.Code.Rows.{noRow as lineAt}\n'),

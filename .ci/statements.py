@@ -13,7 +13,7 @@ PAGES = {
     REQUESTS: [
         'crates/scan/specs/Line.antt', 'crates/scan/specs/Scan.antt', 'crates/ranges/specs/Ranges.antt',
         'crates/delivery/specs/Assignment.antt', 'crates/first_principles/specs/FirstPrinciples.antt', 'crates/supply/specs/Linear.antt',
-        'crates/private_locks/specs/PrivateLocks.antt',
+        'crates/private_locks/specs/PrivateLocks.antt', 'crates/kept_pairs/specs/KeptPairs.antt',
     ],
 }
 NAMED = {
@@ -23,7 +23,7 @@ NAMED = {
         'crates/load/specs/Weigh.antt': ['RowFits'],
         'crates/plan_file/specs/Numbers.antt': ['PlanPart', 'namers', 'isSharedIn', 'planPart', 'planParts', 'partsOf', 'noPlanPart', 'partAt'],
         'crates/plan_file/specs/PartLines.antt': ['ownLines', 'linesByPart', 'linesOfPart'],
-        'crates/refusal/specs/Limits.antt': ['keptLimit'],
+        'crates/refusal/specs/Limits.antt': ['taskLimit', 'keptLimit'],
         'crates/refusal/specs/Number.antt': ['isOfTheFile'],
         'crates/task_set/specs/Partition.antt': ['Partition', 'isShared', 'sharedLocks'],
         'crates/supply/specs/Signed.antt': ['larger', 'ceilOf', 'signedRound', 'signedAt', 'signedSupply'],
@@ -32,13 +32,13 @@ NAMED = {
         'crates/text/specs/Bytes.antt': ['Line', 'intoLine', 'linesOf'],
         'crates/refusal/specs/Limits.antt': ['numberLimit'],
         'crates/holding/specs/Holding.antt': ['highestCeiling', 'inRange', 'permitted', 'holdingTimeOf'],
-        'crates/candidates/specs/Candidates.antt': ['shownCeiling'],
+        'crates/candidates/specs/Candidates.antt': ['keptAmong', 'keptList', 'keptFrom', 'keptAnswer', 'shownCeiling'],
         'crates/supply/specs/Supply.antt': ['roundOf', 'supplyAt', 'supplyOf'],
         'crates/supply/specs/Signed.antt': ['SignsMakeNoDifference'],
     },
 }
 # The crates with the proofs of what the pages say.
-PROVERS = ['answers', 'planner', 'examples', 'scan', 'ranges', 'supply', 'delivery', 'first_principles', 'private_locks']
+PROVERS = ['answers', 'planner', 'examples', 'scan', 'ranges', 'supply', 'delivery', 'first_principles', 'private_locks', 'kept_pairs']
 
 
 def without_comments(text, antt):

@@ -18,15 +18,15 @@
 
 /* MAJOR moves when a caller must change something, MINOR when something is new or a rule of the
  * answers has changed, PATCH when neither is so. */
-#define PLANNER_VERSION_MAJOR 1
-#define PLANNER_VERSION_MINOR 1
+#define PLANNER_VERSION_MAJOR 2
+#define PLANNER_VERSION_MINOR 0
 #define PLANNER_VERSION_PATCH 0
-#define PLANNER_VERSION "1.1.0"
+#define PLANNER_VERSION "2.0.0"
 
 /* The greatest number of a file, and the greatest period, budget, holding time and time set by hand;
  * the most bytes of a file, pairs of a kept list and rows of a weighing; bytes enough for any
  * listing. */
-enum { PLANNER_MOST_NUMBER = 1000000, PLANNER_MOST_BYTES = 32768, PLANNER_MOST_PAIRS = 121 };
+enum { PLANNER_MOST_NUMBER = 1000000, PLANNER_MOST_BYTES = 32768, PLANNER_MOST_PAIRS = 16 };
 enum { PLANNER_MOST_ROWS = 16, PLANNER_ROOM = 8192 };
 
 /* Bytes of stack that a call needs, its answer included. A program that binds memcpy and memset only

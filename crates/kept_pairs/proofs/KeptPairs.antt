@@ -21,6 +21,7 @@ use Rattle.answers.specs.Answers.{candidatesOf, candidateList}
 use Rattle.planner.specs.Refusals.{PartOf}
 use Rattle.planner.proofs.Local.{candidates-kept}
 use Rattle.kept_pairs.specs.KeptPairs.{KeptPairs}
+use Rattle.kept_pairs.proofs.Sharp.{reached}
 
 -- a part of a readable file
 module _ (s : List ℕ) (k : ℕ) (p : PlanPart) (d : PartOf s k p) where
@@ -49,6 +50,7 @@ pub kept-pairs : KeptPairs
 kept-pairs = record {
   at-most-n = kept-n;
   on-the-way = from-n;
+  reached = λ n h. let r = reached n h in (r .0, r .1, r .2);
   some-task = λ s k p d. fine s k p d .some-task;
   few-tasks = λ s k p d. fine s k p d .few-tasks;
   each-part = each-part;

@@ -1,1 +1,4 @@
+pub mod Family
+pub mod Ceilings
+pub mod Sharp
 pub mod KeptPairs

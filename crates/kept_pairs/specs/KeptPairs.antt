@@ -16,6 +16,8 @@ pub record KeptPairs : Type 0 where
   pub at-most-n : (v : Partition) → 1 ≤ length (v .tasks) → length (keptList v) ≤ length (v .tasks)
   -- nor are more kept of the candidates with X at least e: this is the list while the search, which begins with the greatest X, has come to e
   pub on-the-way : (v : Partition) (e : ℕ) → 1 ≤ length (v .tasks) → length (keptFrom v e) ≤ length (v .tasks)
+  -- no smaller number would do: for each n some part with n tasks has n of them
+  pub reached : (n : ℕ) → 1 ≤ n → (v : Partition) × (length (v .tasks) ≡ n) × (length (keptList v) ≡ n)
   -- every part of every readable file has 1 to 16 tasks, and no more kept pairs than tasks
   pub some-task : (s : List ℕ) (k : ℕ) (p : PlanPart) → PartOf s k p → 1 ≤ length (p .numbers .tasks)
   pub few-tasks : (s : List ℕ) (k : ℕ) (p : PlanPart) → PartOf s k p → length (p .numbers .tasks) ≤ 16

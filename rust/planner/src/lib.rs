@@ -46,7 +46,7 @@ pub const MOST_NUMBER: u64 = 1_000_000;
 /// The most bytes of a file.
 pub const MOST_BYTES: usize = 32_768;
 /// The most pairs of a kept list.
-pub const MOST_PAIRS: usize = 121;
+pub const MOST_PAIRS: usize = 16;
 /// The most rows that can be weighed.
 pub const MOST_ROWS: usize = 16;
 /// Bytes enough for any listing.
