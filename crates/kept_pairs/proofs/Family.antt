@@ -10,7 +10,7 @@ use Prim.Native.Nat.{ℕ, zero, suc, _+_, _-_, _*_, _≤_, _<_}
 use native.Mathlib.Omega.{arith}
 use mathlib.Core.Path.{_≡_, refl, ap, _∙_}
 use mathlib.Core.Bool.{true}
-use mathlib.Core.List.{List, [], _∷_, map, List·Memᴰ, List·Memᴰ·head, List·Memᴰ·tail}
+use mathlib.Core.List.{List, [], _∷_, map}
 use lib.ListN.{length, drop, getD}
 use borrow.Author.Tests.{le-leb}
 use Rattle.least.specs.Round.{ceilDiv}
@@ -60,11 +60,6 @@ module _ (n : ℕ) where
   lights-get k zero h = absurd (omega arith)
   lights-get zero (suc p) h = ap light (omega arith)
   lights-get (suc k) (suc p) h = lights-get k p (omega arith) ∙ ap light (omega arith)
-
-  pub lights-member : (p : ℕ) (t : Task) → List·Memᴰ t (lights p) → (j : ℕ) × (j < p) × (t ≡ light j)
-  unfolding lights
-  lights-member (suc p) t (List·Memᴰ·head e) = (p, omega arith, e)
-  lights-member (suc p) t (List·Memᴰ·tail m) = let h = lights-member p t m in (h .0, omega (arith, h .1), h .2)
 
   -- each asks for one tick in up to 9n ticks
   pub lights-demand : (p w : ℕ) → 1 ≤ w → w ≤ 9 * n → demandIn (lights p) w ≡ p

@@ -10,6 +10,7 @@ use Rattle.least.proofs.Pad.{length-pad}
 use Rattle.refusal.specs.Limits.{keptLimit}
 use Rattle.refusal.specs.Questions.{Answer}
 use Rattle.refusal.specs.Questions.Answer.{answered, refused}
+use Rattle.task_set.specs.Partition.{Partition}
 use Rattle.candidates.specs.declared.Pair.{Pair}
 use Rattle.candidates.specs.declared.Kept.{Kept}
 use Rattle.candidates.specs.Candidates.{pair, keptList, keptAnswer}
@@ -21,7 +22,8 @@ use Rattle.answers.specs.Answers.{candidatesOf, candidateList}
 use Rattle.planner.specs.Refusals.{PartOf}
 use Rattle.planner.proofs.Local.{candidates-kept}
 use Rattle.kept_pairs.specs.KeptPairs.{KeptPairs}
-use Rattle.kept_pairs.proofs.Sharp.{reached}
+use Rattle.kept_pairs.proofs.Sharp.{stairs-count, reached}
+use Rattle.kept_pairs.proofs.Full.{file, firstPart, first-part, first-stairs}
 
 -- a part of a readable file
 module _ (s : List ℕ) (k : ℕ) (p : PlanPart) (d : PartOf s k p) where
@@ -46,14 +48,20 @@ unfolding candidateList keptAnswer
 places (answered cs) = length-pad keptLimit (pair 0 0) cs
 places (refused r) = length-pad keptLimit (pair 0 0) []
 
+-- a file with a part that has 16
+all-taken : candidateList (candidatesOf file 1) .kept .count ≡ 16
+unfolding keptAnswer
+all-taken = ap (λ (a : Kept). a .count) (kept-is file 1 firstPart first-part) ∙ ap (λ (v : Partition). length (keptList v)) first-stairs ∙ stairs-count 16 (omega arith)
+
 pub kept-pairs : KeptPairs
 kept-pairs = record {
   at-most-n = kept-n;
   on-the-way = from-n;
-  reached = λ n h. let r = reached n h in (r .0, r .1, r .2);
+  reached = reached;
   some-task = λ s k p d. fine s k p d .some-task;
   few-tasks = λ s k p d. fine s k p d .few-tasks;
   each-part = each-part;
   counted = counted;
   places = λ s k. places (candidatesOf s k);
+  all-taken = (file, 1, all-taken);
 }

@@ -1,10 +1,6 @@
--- A part with n tasks has at most n kept pairs (crate candidates, law `kept-n`), and no smaller bound holds: for each n from 1 on some part with n tasks has n,
--- and it is one that a file could have.
+-- A part with n tasks has at most n kept pairs (crate candidates, law `kept-n`), and no smaller bound holds: for each n from 1 on some part with n tasks has n.
 --   step n m    == the pair of the ceiling n − m: the budget 8n − 2m with X = 4n + m
 --   steps n k   == these pairs from m = k − 1 down to m = 0
---   FitTask t   == 1 ≤ C ≤ D ≤ T, and the task holds no lock for longer than C
---   Readable v  == the tasks are such, and the part has one lock, which is shared and has a user
---   InLimits v  == the counts and numbers are within the limits of a file
 -- Assumes nothing.
 use Prim.Native.Nat.{ℕ, zero, suc, _+_, _-_, _*_, _≤_, _<_}
 use native.Mathlib.Nat.{le-refl, eq-or-lt-of-le}
@@ -18,9 +14,6 @@ use Rattle.least.specs.declared.Least.{Least}
 use Rattle.least.specs.declared.Least.the-variants.{At}
 use Rattle.least.specs.Lists.{nthOr}
 use Rattle.least.proofs.Pairwise.{Pairwise}
-use Rattle.refusal.specs.Limits.{numberLimit, taskLimit}
-use Rattle.task_set.specs.declared.Task.{Task}
-use Rattle.task_set.specs.Tasks.{heldFor, greatestHeld}
 use Rattle.task_set.specs.Partition.{Partition, isShared}
 use Rattle.task_set.specs.Blocking.{Setting}
 use Rattle.holding.specs.Holding.{highestCeiling, inRange}
@@ -30,7 +23,7 @@ use Rattle.candidates.specs.Candidates.{pair, keptList}
 use Rattle.candidates.specs.Statement.{Candidate}
 use Rattle.candidates.proofs.Keeping.{pair-same, Covered}
 use Rattle.candidates.proofs.Walk.{Behind, kept-criterion}
-use Rattle.kept_pairs.proofs.Family.{light, heavy, stairTasks, stairs, lights-member, held-longest, stairs-length, ceiling-lowest}
+use Rattle.kept_pairs.proofs.Family.{stairs, stairs-length, ceiling-lowest}
 use Rattle.kept_pairs.proofs.Ceilings.{stairs-budget, stairs-permitted, stairs-time}
 
 at-same : (a b : ℕ) → _≡_ {A = Least} (At a) (At b) → a ≡ b
@@ -120,67 +113,9 @@ module _ (n : ℕ) where
             let h = candidate-step d q in
             (d, subst (λ (c : Pair). List·Memᴰ c (steps n)) (sym (h .2)) (steps-to n (h .0) (h .1)), record { holding = le-refl _; sum = le-refl _ })
 
-    stairs-count : length (keptList (stairs n)) ≡ n
+    pub stairs-count : length (keptList (stairs n)) ≡ n
     stairs-count = ap length (sym stairs-kept) ∙ steps-length n
 
-pub record FitTask (t : Task) : Type 0 where
-  pub cost-some : 1 ≤ t .cost
-  pub cost-most : t .cost ≤ t .deadline
-  pub deadline-most : t .deadline ≤ t .separation
-  pub uses-most : (l : ℕ) → heldFor l t ≤ t .cost
-
-pub record Readable (v : Partition) : Type 0 where
-  pub period-some : 1 ≤ v .period
-  pub each-task : (t : Task) → List·Memᴰ t (v .tasks) → FitTask t
-  pub one-lock : v .locks ≡ 1
-  pub flags : length (v .shared) ≡ v .locks
-  pub shared : isShared v 1 ≡ true
-  pub used : 1 ≤ greatestHeld 1 (v .tasks)
-
-pub record InLimits (v : Partition) : Type 0 where
-  pub few-tasks : length (v .tasks) ≤ taskLimit
-  pub period-most : v .period ≤ numberLimit
-  pub separation-most : (t : Task) → List·Memᴰ t (v .tasks) → t .separation ≤ numberLimit
-
--- all uses of a task of one use
-one-use : (c l : ℕ) → nthOr 0 l (c ∷ []) ≤ c
-unfolding nthOr
-one-use c zero = omega arith
-one-use c (suc zero) = omega arith
-one-use c (suc (suc l)) = omega arith
-
-module _ (n : ℕ) (some : 1 ≤ n) where
-  heavy-fit : FitTask (heavy n)
-  unfolding heldFor
-  heavy-fit = record { cost-some = omega arith; cost-most = omega arith; deadline-most = omega arith; uses-most = one-use (4 * n) }
-
-  light-fit : (j : ℕ) → j < n - 1 → FitTask (light n j)
-  unfolding heldFor
-  light-fit j h = record { cost-some = omega arith; cost-most = omega arith; deadline-most = omega arith; uses-most = λ l. omega (arith, one-use 0 l) }
-
-  -- what holds of the heavy task and of each light one holds of each task
-  each-stair : (R : Task → Type 0) → R (heavy n) → ((j : ℕ) → j < n - 1 → R (light n j)) → (t : Task) → List·Memᴰ t (stairTasks n) → R t
-  each-stair R h l t (List·Memᴰ·head e) = subst R (sym e) h
-  each-stair R h l t (List·Memᴰ·tail m) = let k = lights-member n (n - 1) t m in subst R (sym (k .2)) (l (k .0) (k .1))
-
-  stairs-readable : Readable (stairs n)
-  unfolding isShared nthOr
-  stairs-readable = record {
-    period-some = omega arith;
-    each-task = each-stair FitTask heavy-fit light-fit;
-    one-lock = refl;
-    flags = refl;
-    shared = refl;
-    used = omega (arith, held-longest n);
-  }
-
-  stairs-limits : n ≤ taskLimit → InLimits (stairs n)
-  stairs-limits u = record {
-    few-tasks = omega (arith, stairs-length n some);
-    period-most = omega arith;
-    separation-most = each-stair (λ t. t .separation ≤ numberLimit) (omega arith) (λ j h. omega arith);
-  }
-
--- as many kept pairs as tasks, in a part that a file could have: up to 16 tasks it is within the limits of a file too
-pub reached : (n : ℕ) → 1 ≤ n → (v : Partition) × (length (v .tasks) ≡ n) × (length (keptList v) ≡ n) × Readable v × (n ≤ taskLimit → InLimits v)
-reached n h = (stairs n, stairs-length n h, stairs-count n h, stairs-readable n h, stairs-limits n h)
+-- as many kept pairs as tasks
+pub reached : (n : ℕ) → 1 ≤ n → (v : Partition) × (length (v .tasks) ≡ n) × (length (keptList v) ≡ n)
+reached n h = (stairs n, stairs-length n h, stairs-count n h)

@@ -24,5 +24,6 @@ pub record KeptPairs : Type 0 where
   pub each-part : (s : List ℕ) (k : ℕ) (p : PlanPart) → PartOf s k p → length (keptList (p .numbers)) ≤ length (p .numbers .tasks)
   -- so the operation counts no more in its answer
   pub counted : (s : List ℕ) (k : ℕ) (p : PlanPart) → PartOf s k p → candidateList (candidatesOf s k) .kept .count ≤ length (p .numbers .tasks)
-  -- and the list of every answer, refused ones too, has 16 places
+  -- and the list of every answer, refused ones too, has 16 places, which are all needed: of some file they are all taken
   pub places : (s : List ℕ) (k : ℕ) → length (candidateList (candidatesOf s k) .kept .pairs) ≡ 16
+  pub all-taken : (s : List ℕ) × (k : ℕ) × (candidateList (candidatesOf s k) .kept .count ≡ 16)
