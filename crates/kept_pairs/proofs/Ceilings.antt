@@ -9,7 +9,7 @@ use native.Mathlib.Decide.{decLe}
 use mathlib.Core.Path.{_≡_, refl, ap}
 use mathlib.Core.Bool.{true}
 use mathlib.Core.Logic.{⊎-elim}
-use mathlib.Core.List.{List}
+use mathlib.Core.List.{List, List·Memᴰ}
 use lib.ListN.{length}
 use Rattle.least.specs.declared.Least.the-variants.{At}
 use Rattle.least.specs.Search.{numberOr0}
@@ -22,7 +22,7 @@ use Rattle.task_set.specs.Tasks.{higher, demandIn, greatestHeld, heldFor}
 use Rattle.task_set.specs.Partition.{isShared}
 use Rattle.task_set.specs.Blocking.{Setting, blockingOf, needOf}
 use Rattle.task_set.specs.Code.ByLock.{lowerThan}
-use Rattle.task_set.proofs.Blocking.{Blocks, blocking-paper, blocking-lowest, blocking-above}
+use Rattle.task_set.proofs.Blocking.{Reaches, blocking-paper, blocking-lowest, blocking-above}
 use Rattle.task_set.proofs.Users.{held-greatest, lower-among, lower-count, blocking-longest}
 use Rattle.holding.specs.Holding.{held, holdingOf, permitted, holdingTimeOf}
 use Rattle.holding.proofs.Holding.{InTime, held-paper, holding-paper, permitted-paper}
@@ -89,7 +89,7 @@ module _ (n : ℕ) (some : 1 ≤ n) where
     blocking-most : (k : ℕ) → blocked k ≤ 4 * n
     blocking-most k = ⊎-elim (λ z. omega (arith, z)) held-by (blocking-paper 1 σ (lower k) .1)
       where
-        held-by : (h : Task) × (l : ℕ) × Blocks 1 σ (lower k) h l × (blocked k ≡ heldFor l h) → blocked k ≤ 4 * n
+        held-by : (h : Task) × (l : ℕ) × (List·Memᴰ h (lower k) × Reaches 1 σ (suc (length (lower k))) l) × (blocked k ≡ heldFor l h) → blocked k ≤ 4 * n
         held-by (h, l, (m, r), e) =
             let one : l ≡ 1 = omega (arith, r .from, r .upto) in
             omega (arith, e, ap (λ (j : ℕ). heldFor j h) one, held-greatest 1 (stairTasks n) h (lower-among (stairTasks n) k h m), held-longest n)
