@@ -32,8 +32,8 @@ enum { PLANNER_MOST_ROWS = 16, PLANNER_ROOM = 8192 };
 /* Bytes of stack that a call needs, its answer included. A program that binds memcpy and memset only
  * when they are first called (no -static, no -z now) needs some KB more in that call. */
 enum {
-    PLANNER_STACK_PLAN = 153 * 1024,
-    PLANNER_STACK_CANDIDATES = 68 * 1024,
+    PLANNER_STACK_PLAN = 125 * 1024,
+    PLANNER_STACK_CANDIDATES = 63 * 1024,
     PLANNER_STACK_NAME = 60 * 1024,
     PLANNER_STACK_WEIGH = 4 * 1024,
     PLANNER_STACK_SUPPLY = 1 * 1024
@@ -52,8 +52,8 @@ typedef struct {
 } planner_plan_answer;
 planner_plan_answer planner_plan(const uint8_t *file, size_t length, uint8_t *out, size_t room);
 
-/* The kept list of a part, counted from 1: budgets Q with holding times X, in falling X. X is that
- * of the part's shared locks, those that another part names too; 0 without any. So the list depends
+/* The kept list of a part, counted from 1: budgets Q with holding times X, in falling X; a part has
+ * no more of them than tasks. X is that of the part's shared locks, those that another part names too; 0 without any. So the list depends
  * on the part's own lines and on which of its locks the rest of the file names. */
 typedef struct {
     uint64_t budget, holding;

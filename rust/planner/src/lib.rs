@@ -53,9 +53,9 @@ pub const MOST_ROWS: usize = 16;
 pub const ROOM: usize = 8192;
 
 /// Bytes of stack that [`plan_into`] needs; [`plan`] has its listing on the heap.
-pub const STACK_PLAN: usize = 153 * 1024;
+pub const STACK_PLAN: usize = 125 * 1024;
 /// Bytes of stack that [`candidates`] needs.
-pub const STACK_CANDIDATES: usize = 68 * 1024;
+pub const STACK_CANDIDATES: usize = 63 * 1024;
 /// Bytes of stack that [`name`] needs.
 pub const STACK_NAME: usize = 60 * 1024;
 /// Bytes of stack that [`weigh`] needs.
