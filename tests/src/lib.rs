@@ -5,6 +5,7 @@
 //! - [`local`]: supply, holding times, blocking, the least budget, the kept list of one part
 //! - [`system`]: rows, bounds, loads, weighing, the selection of least load
 //! - [`listing`]: the printed bytes
+//! - [`same_search`]: plans and kept lists by the library's own search, to compare times with
 //! - [`literal`]: all of it again by brute force, for small files
 //! - [`random`]: made-up plan files
 //! - [`edges`]: numbers at and past the largest one
@@ -33,10 +34,11 @@ pub mod local;
 pub mod page;
 pub mod programs;
 pub mod random;
+pub mod same_search;
 pub mod system;
 pub mod timing;
 
-use file::LARGEST_NUMBER;
+use file::{Part, LARGEST_NUMBER};
 use local::{Local, Pair};
 use system::{Candidates, Row};
 
@@ -70,48 +72,66 @@ fn refuse<T>(number: u32, place: usize) -> Result<T, Refusal> {
 pub fn plan(file: &[u8], room: usize) -> Result<Vec<u8>, Refusal> {
     let parts = file::read(file)?;
     let locals: Vec<Local> = parts.iter().map(Local::new).collect();
-    let mut candidates = Vec::with_capacity(parts.len());
-    for (index, local) in locals.iter().enumerate() {
-        let pairs = local.candidates();
-        if pairs.is_empty() {
-            return refuse(10, index + 1);
-        }
-        let period = parts[index].period;
-        candidates.push(Candidates { period, pairs });
-    }
+    let candidates = all_candidates(&parts, locals.iter().map(Local::candidates))?;
     let Some((rows, weighing)) = system::select(&candidates) else {
         return refuse(11, 0);
     };
     let ceilings = |part: usize, row: &Row| locals[part].ceilings(row.holding);
-    let listing = listing::of_plan(&parts, &rows, &weighing, ceilings);
+    fitting(listing::of_plan(&parts, &rows, &weighing, ceilings), room)
+}
+
+/// The kept lists of all parts, each worked out behind the one before. Question 10.
+fn all_candidates(
+    parts: &[Part],
+    lists: impl Iterator<Item = Vec<Pair>>,
+) -> Result<Vec<Candidates>, Refusal> {
+    let mut candidates = Vec::with_capacity(parts.len());
+    for (index, pairs) in lists.enumerate() {
+        candidates.push(Candidates {
+            period: parts[index].period,
+            pairs: kept(pairs, index + 1)?,
+        });
+    }
+    Ok(candidates)
+}
+
+/// The listing, if it fits. Question 14.
+fn fitting(listing: Vec<u8>, room: usize) -> Result<Vec<u8>, Refusal> {
     if listing.len() > room {
         return refuse(14, 0);
     }
     Ok(listing)
 }
 
+/// The part with this number, from 1. Question 12.
+fn part_numbered<'p, 'f>(parts: &'p [Part<'f>], number: usize) -> Result<&'p Part<'f>, Refusal> {
+    match number.checked_sub(1).and_then(|index| parts.get(index)) {
+        Some(part) => Ok(part),
+        None => refuse(12, 0),
+    }
+}
+
+/// The kept list of the part with this number. Question 10.
+fn kept(pairs: Vec<Pair>, number: usize) -> Result<Vec<Pair>, Refusal> {
+    if pairs.is_empty() {
+        return refuse(10, number);
+    }
+    Ok(pairs)
+}
+
 /// The kept list of one part of the file, parts counted from 1.
 /// Questions 1 to 9, 12, then 10 for that part alone.
 pub fn candidates(file: &[u8], part: usize) -> Result<Vec<Pair>, Refusal> {
     let parts = file::read(file)?;
-    let Some(index) = part.checked_sub(1).filter(|&i| i < parts.len()) else {
-        return refuse(12, 0);
-    };
-    let pairs = local::candidates(&parts[index]);
-    if pairs.is_empty() {
-        return refuse(10, part);
-    }
-    Ok(pairs)
+    kept(local::candidates(part_numbered(&parts, part)?), part)
 }
 
 /// The stretch of the file that is the name of the part, parts counted from 1.
 /// Questions 1 to 9, then 12.
 pub fn name(file: &[u8], part: usize) -> Result<Range<usize>, Refusal> {
     let parts = file::read(file)?;
-    match part.checked_sub(1).and_then(|index| parts.get(index)) {
-        Some(part) => Ok(part.name_start..part.name_start + part.name.bytes.len()),
-        None => refuse(12, 0),
-    }
+    let part = part_numbered(&parts, part)?;
+    Ok(part.name_start..part.name_start + part.name.bytes.len())
 }
 
 /// The supply of a budget in a server period over `time` ticks, numbers set by hand. Question 12.

@@ -5,11 +5,11 @@ use crate::system::{Row, Weighing};
 use crate::Refusal;
 
 /// The listing of a plan: its rows with their bounds, and the ceilings of each part.
-pub fn of_plan(
+pub fn of_plan<C: IntoIterator<Item = usize>>(
     parts: &[Part],
     rows: &[Row],
     weighing: &Weighing,
-    ceilings: impl Fn(usize, &Row) -> Vec<usize>,
+    ceilings: impl Fn(usize, &Row) -> C,
 ) -> Vec<u8> {
     let mut listing = Listing(Vec::with_capacity(1024));
     let load = weighing.load();

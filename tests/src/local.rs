@@ -22,7 +22,7 @@ pub fn supply(period: u64, budget: u64, time: u64) -> u64 {
 }
 
 /// The inverse of supply: the first time at which `need` ≥ 1 ticks are given.
-fn time_of_supply(period: u64, budget: u64, need: u64) -> u64 {
+pub(crate) fn time_of_supply(period: u64, budget: u64, need: u64) -> u64 {
     need + ((need - 1) / budget + 2) * (period - budget)
 }
 
@@ -39,7 +39,44 @@ impl Pair {
     }
 }
 
-/// A lock in its part. Ceilings are task numbers, from 1.
+/// Keeps a pair with a smaller holding time than those before, and drops those that it beats.
+pub(crate) fn keep(kept: &mut Vec<Pair>, pair: Pair) {
+    while kept.last().is_some_and(|last| last.sum() >= pair.sum()) {
+        kept.pop();
+    }
+    kept.push(pair);
+}
+
+/// How the tasks of a part use one of its locks. Ceilings are task numbers, from 1.
+#[derive(Clone, Copy)]
+pub(crate) struct Usage {
+    /// The lowest ceiling: the number of the highest user.
+    pub lowest_ceiling: usize,
+    /// The longest time for which a task holds the lock.
+    pub longest: u64,
+    /// The smallest deadline among the users: no longer may the lock be held.
+    pub limit: u64,
+}
+
+impl Usage {
+    pub fn of(part: &Part, lock: usize) -> Self {
+        let mut usage = Usage {
+            lowest_ceiling: 1,
+            longest: 0,
+            limit: u64::MAX,
+        };
+        for (number, task) in (1..).zip(&part.tasks) {
+            if task.held[lock] > 0 {
+                usage.lowest_ceiling = number;
+                usage.longest = usage.longest.max(task.held[lock]);
+                usage.limit = usage.limit.min(task.deadline);
+            }
+        }
+        usage
+    }
+}
+
+/// A lock in its part.
 struct Lock {
     /// The lowest permitted ceiling; none is permitted if it is above the number of tasks.
     lowest: usize,
@@ -90,10 +127,7 @@ impl<'p> Local<'p> {
                 budget,
                 holding: self.holding(&ceilings),
             };
-            while kept.last().is_some_and(|last| last.sum() >= pair.sum()) {
-                kept.pop();
-            }
-            kept.push(pair);
+            keep(&mut kept, pair);
             if pair.holding == 0 || !self.raise(&mut ceilings, pair.holding - 1) {
                 return kept;
             }
@@ -179,10 +213,11 @@ impl Lock {
     /// the smallest deadline among the lock's users.
     fn new(part: &Part, lock: usize) -> Self {
         let tasks = &part.tasks;
-        let lowest_ceiling = tasks
-            .iter()
-            .rposition(|task| task.held[lock] > 0)
-            .map_or(1, |k| k + 1);
+        let Usage {
+            lowest_ceiling,
+            longest,
+            limit,
+        } = Usage::of(part, lock);
         let holding = [0; MOST_TASKS + 1];
         if !part.shared[lock] {
             return Lock {
@@ -190,9 +225,6 @@ impl Lock {
                 holding,
             };
         }
-        let users = || tasks.iter().filter(|task| task.held[lock] > 0);
-        let longest = users().map(|task| task.held[lock]).max().unwrap_or(0);
-        let limit = users().map(|task| task.deadline).min().unwrap_or(0);
         let mut found = Lock {
             lowest: tasks.len() + 1,
             holding,
@@ -236,11 +268,27 @@ pub fn releases(time: u64, separation: u64) -> u64 {
     }
 }
 
-/// What the tasks ask for in `time` ticks: of each less than `time` and its separation together.
-fn demand(tasks: &[Task], time: u64) -> u64 {
-    tasks
+/// What comes again and again, and asks for a cost each time.
+pub(crate) trait Recurs {
+    fn period(&self) -> u64;
+    fn cost(&self) -> u64;
+}
+
+impl Recurs for Task<'_> {
+    fn period(&self) -> u64 {
+        self.separation
+    }
+
+    fn cost(&self) -> u64 {
+        self.execution
+    }
+}
+
+/// What these ask for in `time` ticks: of each less than `time` and its separation together.
+pub(crate) fn demand<R: Recurs>(above: &[R], time: u64) -> u64 {
+    above
         .iter()
-        .map(|task| releases(time, task.separation) * task.execution)
+        .map(|one| releases(time, one.period()) * one.cost())
         .sum()
 }
 

@@ -1,7 +1,7 @@
 //! The system test: rows, bounds, loads, weighing, and the selection of least load.
 
 use crate::file::{LARGEST_NUMBER, MOST_PARTS};
-use crate::local::{releases, Pair};
+use crate::local::{releases, Pair, Recurs};
 use crate::{refuse, Refusal};
 
 /// A part's period, budget and holding time. Later rows have higher priority.
@@ -25,6 +25,16 @@ impl From<(u64, u64, u64)> for Row {
 impl Row {
     fn sum(&self) -> u64 {
         self.budget + self.holding
+    }
+}
+
+impl Recurs for Row {
+    fn period(&self) -> u64 {
+        self.period
+    }
+
+    fn cost(&self) -> u64 {
+        self.sum()
     }
 }
 
@@ -190,7 +200,7 @@ pub struct Candidates {
 }
 
 impl Candidates {
-    fn row(&self, position: usize) -> Option<Row> {
+    pub(crate) fn row(&self, position: usize) -> Option<Row> {
         self.pairs.get(position).map(|pair| Row {
             period: self.period,
             budget: pair.budget,

@@ -1,32 +1,34 @@
-//! Runs one side once, for instruction counts: `once library|reference FILE plan` plans the file,
-//! `once library|reference FILE PART..` asks for the candidates of each part; part 0 is refused
-//! right behind the reading.
+//! Runs one side once, for instruction counts: `once SIDE FILE plan` plans the file, `once SIDE
+//! FILE PART..` asks for the candidates of each part; part 0 is refused right behind the reading.
+//! The sides are `library`, `same_search` and `reference`.
 
 use std::hint::black_box;
 use std::{env, error::Error, fs};
 
-use reference::{candidates, plan, PROGRAM_ROOM};
+use reference::{candidates, plan, same_search, PROGRAM_ROOM};
 
 fn main() -> Result<(), Box<dyn Error>> {
     let mut words = env::args().skip(1);
-    let by_library = match words.next().as_deref() {
-        Some("library") => true,
-        Some("reference") => false,
-        _ => return Err("library or reference?".into()),
-    };
+    let side = words.next().unwrap_or_default();
     let bytes = fs::read(words.next().ok_or("which file?")?)?;
-    for word in words {
-        if word == "plan" {
+    let plan_once: fn(&[u8]) = match side.as_str() {
+        "library" => |bytes| {
             let mut out = [0u8; PROGRAM_ROOM];
-            if by_library {
-                let _ = black_box(planner::plan_into(&bytes, &mut out));
-            } else {
-                let _ = black_box(plan(&bytes, PROGRAM_ROOM));
-            }
-        } else if by_library {
-            let _ = black_box(planner::candidates(&bytes, word.parse()?));
-        } else {
-            let _ = black_box(candidates(&bytes, word.parse()?));
+            let _ = black_box(planner::plan_into(bytes, &mut out));
+        },
+        "same_search" => |bytes| drop(black_box(same_search::plan(bytes, PROGRAM_ROOM))),
+        "reference" => |bytes| drop(black_box(plan(bytes, PROGRAM_ROOM))),
+        _ => return Err("library, same_search or reference?".into()),
+    };
+    let candidates_once: fn(&[u8], usize) = match side.as_str() {
+        "library" => |bytes, part| drop(black_box(planner::candidates(bytes, part))),
+        "same_search" => |bytes, part| drop(black_box(same_search::candidates(bytes, part))),
+        _ => |bytes, part| drop(black_box(candidates(bytes, part))),
+    };
+    for word in words {
+        match word.as_str() {
+            "plan" => plan_once(&bytes),
+            part => candidates_once(&bytes, part.parse()?),
         }
     }
     Ok(())

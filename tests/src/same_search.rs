@@ -1,0 +1,52 @@
+//! The planner once more with the search that the library has, to compare times with: the
+//! reference keeps simpler searches. docs/COST.md says how each search goes and what it costs.
+//!
+//! - [`climb`]: the least time at which a demand is met, with jumps along lines under it
+//! - [`walk`]: the kept list of one part, and the ceilings shown
+//! - [`choice`]: bounds of rows, and the selection of least load
+//!
+//! Reading, rows, the test of a kept pair and the printed bytes are those of the reference.
+
+pub mod choice;
+pub mod climb;
+pub mod walk;
+
+use crate::file::{self, Part};
+use crate::local::{Pair, Recurs};
+use crate::system::Row;
+use crate::{all_candidates, fitting, kept, listing, part_numbered, refuse, Refusal};
+use climb::{share, SCALE};
+use walk::Walk;
+
+/// The listing of the plan of least load, if it fits `room` bytes.
+/// Questions 1 to 11, then 14.
+pub fn plan(file: &[u8], room: usize) -> Result<Vec<u8>, Refusal> {
+    let parts = file::read(file)?;
+    let walks: Vec<Walk> = parts.iter().map(Walk::new).collect();
+    if utilisation(&parts) > SCALE {
+        // No choice passes, and no kept list is needed.
+        return match walks.iter().position(|walk| !walk.has_pair()) {
+            Some(index) => refuse(10, index + 1),
+            None => refuse(11, 0),
+        };
+    }
+    let candidates = all_candidates(&parts, walks.iter().map(Walk::candidates))?;
+    let Some((rows, weighing)) = choice::select(&candidates) else {
+        return refuse(11, 0);
+    };
+    let ceilings = |part: usize, row: &Row| walks[part].ceilings(row.holding);
+    fitting(listing::of_plan(&parts, &rows, &weighing, ceilings), room)
+}
+
+/// The kept list of one part of the file, parts counted from 1.
+/// Questions 1 to 9, 12, then 10 for that part alone.
+pub fn candidates(file: &[u8], part: usize) -> Result<Vec<Pair>, Refusal> {
+    let parts = file::read(file)?;
+    kept(Walk::new(part_numbered(&parts, part)?).candidates(), part)
+}
+
+/// What the tasks of all parts ask for of every tick, each rounded down.
+fn utilisation(parts: &[Part]) -> u64 {
+    let tasks = parts.iter().flat_map(|part| &part.tasks);
+    tasks.map(|task| share(task.period(), task.cost())).sum()
+}
