@@ -77,6 +77,12 @@ impl<'f> Part<'f> {
     }
 }
 
+/// Are there as many parts, tasks and locks as there may be?
+pub fn is_full(parts: &[Part]) -> bool {
+    let is_full = |part: &Part| part.tasks.len() == MOST_TASKS && part.locks.len() == MOST_LOCKS;
+    parts.len() == MOST_PARTS && parts.iter().all(is_full)
+}
+
 /// Reads a plan file: its parts, or the first of questions 1 to 9 that has the answer no.
 pub fn read(file: &[u8]) -> Result<Vec<Part<'_>>, Refusal> {
     if file.len() > LONGEST_FILE {

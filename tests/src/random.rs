@@ -2,7 +2,8 @@
 
 use std::ops::RangeInclusive;
 
-use crate::file::{LARGEST_NUMBER, LONGEST_FILE, MOST_LOCKS};
+use crate::file::{LARGEST_NUMBER, LONGEST_FILE, MOST_LOCKS, MOST_PARTS, MOST_TASKS};
+use crate::local::time_of_supply;
 
 /// A xorshift generator.
 pub struct Random(u64);
@@ -201,6 +202,76 @@ pub fn valid(random: &mut Random, sizes: &Sizes) -> Vec<u8> {
     }
     file += "end\n";
     file.into_bytes()
+}
+
+/// A readable plan file with as many parts, tasks and locks as there may be. Most locks are shared.
+pub fn full_kiosk(random: &mut Random) -> Vec<u8> {
+    let mut periods = [0; MOST_PARTS].map(|_| random.within(5_000..=40_000));
+    falling(&mut periods);
+    // The longest execution time in a period of 10,000 ticks.
+    let longest = random.within(80..=250);
+    let mut file = String::new();
+    for (index, period) in (0..).zip(periods) {
+        file += &format!("part\t{}\t{period}\n", name(random, 'p', index));
+        // Each lock has a user among the lowest tasks.
+        let locks: Vec<(String, usize)> = (0..MOST_LOCKS)
+            .map(|lock| {
+                let name = if random.once_in(8) {
+                    format!("l{lock}of{index}")
+                } else {
+                    format!("l{lock}")
+                };
+                (name, random.index(MOST_TASKS / 4))
+            })
+            .collect();
+        for (place, task) in kiosk_tasks(random, period, longest).iter().enumerate() {
+            let Task {
+                separation,
+                execution,
+                deadline,
+                ..
+            } = task;
+            let name = name(random, 't', place as u64);
+            file += &format!("task\t{name}\t{separation}\t{execution}\t{deadline}\n");
+            for (name, user) in &locks {
+                if *user == place || random.once_in(task.lock_once_in) {
+                    let held = random.within(1..=*execution);
+                    file += &format!("lock\t{name}\t{held}\n");
+                }
+            }
+        }
+    }
+    file += "end\n";
+    file.into_bytes()
+}
+
+/// As many tasks as a part may have. Those of the lower half hold locks for long; those of the
+/// higher half just pass with a small budget, the higher the greater, so that kept lists are long.
+fn kiosk_tasks(random: &mut Random, period: u64, longest: u64) -> Vec<Task> {
+    let long = period * longest / 10_000;
+    let short = long / 20;
+    let separation = |_| random.within(15 * period..=25 * period);
+    let mut separations: Vec<u64> = (0..MOST_TASKS).map(separation).collect();
+    falling(&mut separations);
+    let budget = random.within(long..=2 * long);
+    let task = |(place, separation): (usize, u64)| {
+        let lower = place < MOST_TASKS / 2;
+        let execution = random.within(1..=if lower { long } else { short });
+        let above = (MOST_TASKS - place) as u64;
+        let deadline = if lower {
+            separation
+        } else {
+            let least = budget + short * (place - MOST_TASKS / 2) as u64;
+            time_of_supply(period, least, long + above * short)
+        };
+        Task {
+            separation,
+            execution,
+            deadline: deadline.clamp(execution, separation),
+            lock_once_in: if lower { 4 } else { 32 },
+        }
+    };
+    separations.into_iter().enumerate().map(task).collect()
 }
 
 /// The lock names of a readable file, each once.

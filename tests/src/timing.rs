@@ -59,11 +59,35 @@ pub fn time_of<T>(mut run: impl FnMut() -> T) -> u128 {
     black_box(run());
     let slow = begin.elapsed() >= SLOW;
     let (rounds, depths) = if slow { SLOW_ROUNDS } else { ROUNDS };
-    let mut times: Vec<u128> = (0..depths)
-        .map(|depth| deeper(depth, &mut || best_round(rounds, &mut run)))
-        .collect();
+    let times = (0..depths).map(|depth| deeper(depth, &mut || best_round(rounds, &mut run)));
+    median(times.collect())
+}
+
+/// How often each side runs, where two run by turns.
+pub const TURNS: usize = 10 * ROUNDS.1 + 1;
+
+/// Nanoseconds a run of two sides that run by turns: medians over all turns, at several depths of
+/// the stack.
+pub fn by_turns<A, B>(mut one: impl FnMut() -> A, mut other: impl FnMut() -> B) -> (u128, u128) {
+    let (mut ones, mut others) = (Vec::new(), Vec::new());
+    for turn in 0..TURNS {
+        let depth = turn % ROUNDS.1;
+        ones.push(deeper(depth, &mut || one_run(&mut one)));
+        others.push(deeper(depth, &mut || one_run(&mut other)));
+    }
+    (median(ones), median(others))
+}
+
+/// Nanoseconds of one run.
+fn one_run<T>(run: &mut impl FnMut() -> T) -> u128 {
+    let begin = Instant::now();
+    black_box(run());
+    begin.elapsed().as_nanos()
+}
+
+fn median(mut times: Vec<u128>) -> u128 {
     times.sort();
-    times[depths / 2]
+    times[times.len() / 2]
 }
 
 /// Calls it so many frames deeper in the stack.

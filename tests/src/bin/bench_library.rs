@@ -1,6 +1,6 @@
-//! Times the planner's own library against the reference with the same search, in one run, on the
-//! files of bench/: the whole plan; the candidates of every part, where every call reads the whole
-//! file first; and so the reading alone (part 0, which is refused behind it).
+//! Times the planner's own library against the reference, in one run, on the files of bench/: the
+//! whole plan; the candidates of every part, where every call reads the whole file first; and so
+//! the reading alone (part 0, which is refused behind it).
 
 use std::error::Error;
 use std::hint::black_box;

@@ -186,14 +186,11 @@ impl<'p> Walk<'p> {
         mut budget: u64,
     ) -> Option<u64> {
         let tasks = &self.part.tasks;
-        // With the budget, the need of the task above with its blocking is not met before `time`.
-        let (mut time, mut blocking_above) = (1, 0);
+        // No task has its need met earlier than the one above it: with its blocking it asks for no
+        // less than that one's blocking. With the budget no need is met before `time`.
+        let mut time = 1;
         for (index, task) in tasks.iter().enumerate().rev() {
             let blocking = blockings[index];
-            // A task that asks for less than the one above it may be met earlier.
-            if task.execution + blocking < blocking_above {
-                time = 1;
-            }
             if tested.is_none_or(|tested| tested[index] != blocking) {
                 let test = Test {
                     own: task.execution + blocking,
@@ -203,7 +200,6 @@ impl<'p> Walk<'p> {
                 };
                 (budget, time) = test.least_budget(budget, time)?;
             }
-            blocking_above = blocking;
         }
         Some(budget)
     }

@@ -1,0 +1,55 @@
+//! Times the planner's own library against a Rust program with the same search, on plan files with
+//! as many parts, tasks and locks as there may be: those of bench/, and made-up ones.
+
+use std::error::Error;
+use std::hint::black_box;
+
+use reference::file::{self, MOST_LOCKS, MOST_PARTS, MOST_TASKS};
+use reference::random::{full_kiosk, Random};
+use reference::timing::{self, by_turns, TURNS};
+use reference::{same_search, PROGRAM_ROOM};
+
+/// The seed of the made-up files, and how many there are.
+const MADE_UP: (u64, usize) = (113, 8);
+
+/// Times a plan of the file, prints its line and gives the ratio.
+fn line(name: &str, bytes: &[u8], out: &mut [u8]) -> f64 {
+    let answer = match planner::plan_into(bytes, out) {
+        Ok(_) => "planned".to_owned(),
+        Err(refusal) => format!("{} ({})", refusal.number, refusal.place),
+    };
+    let (ours, theirs) = by_turns(
+        || planner::plan_into(black_box(bytes), out).is_ok(),
+        || same_search::plan(black_box(bytes), PROGRAM_ROOM),
+    );
+    let ratio = ours as f64 / theirs as f64;
+    println!("{name:<14}{ours:>11}{theirs:>13}{ratio:>7.2}  {answer}");
+    ratio
+}
+
+fn main() -> Result<(), Box<dyn Error>> {
+    println!("Plans of {MOST_PARTS} parts of {MOST_TASKS} tasks and {MOST_LOCKS} locks, by turns in one sitting: medians of {TURNS} runs.");
+    println!("At the start: the lent buffer cleared once, before the first run; the stack as the run before left it.");
+    println!("The same search takes its memory from the allocator at each run.");
+    println!();
+    println!("ns a run          library  same search  ratio  answer");
+    let mut files: Vec<(String, Vec<u8>)> = timing::files()?
+        .into_iter()
+        .filter(|timed| file::read(&timed.bytes).is_ok_and(|parts| file::is_full(&parts)))
+        .map(|timed| (timed.name, timed.bytes))
+        .collect();
+    let (seed, count) = MADE_UP;
+    let random = &mut Random::new(seed);
+    files.extend((1..=count).map(|number| (format!("made-up {number}"), full_kiosk(random))));
+    let mut out = [0u8; PROGRAM_ROOM];
+    let mut greatest = (0.0, "");
+    for (name, bytes) in &files {
+        let ratio = line(name, bytes, &mut out);
+        if ratio > greatest.0 {
+            greatest = (ratio, name);
+        }
+    }
+    let (ratio, name) = greatest;
+    println!("the greatest ratio: {ratio:.2}, of {name}");
+    Ok(())
+}
