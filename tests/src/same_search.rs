@@ -5,7 +5,9 @@
 //! - [`walk`]: the kept list of one part, and the ceilings shown
 //! - [`choice`]: bounds of rows, and the selection of least load
 //!
-//! Reading, rows, the test of a kept pair and the printed bytes are those of the reference.
+//! Reading, rows, the test of a kept pair and the printed bytes are those of the reference. Settings
+//! and climbs are those of the library; what is kept between them is not: blockings are carried from
+//! setting to setting, where the library works them out anew.
 
 pub mod choice;
 pub mod climb;
