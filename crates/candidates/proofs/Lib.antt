@@ -11,6 +11,7 @@ pub mod Known
 pub mod Settle
 pub mod Pairs
 pub mod Budgets
+pub mod Raises
 pub mod Starts
 pub mod Lowest
 pub mod Permits

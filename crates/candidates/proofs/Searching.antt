@@ -38,12 +38,13 @@ pub record Prepared (p : Part) (c : Columns) (k : Locks) (table : List ℕ) : Ty
   pub locks : LocksAre p k
   pub below : LongestBelow p table
 
-pub record Searching (p : Part) (c : Columns) (ceilings times blocked : List ℕ) (budget : ℕ) (budgets holdings : List ℕ) (count x : ℕ) : Type 0 where
+pub record Searching (p : Part) (c : Columns) (table ceilings times blocked : List ℕ) (budget : ℕ) (budgets holdings : List ℕ) (count x : ℕ) : Type 0 where
   pub search : SearchAt p c x ceilings times blocked budget
   pub walked : Walked (partitionOf p) x (pairsOf budgets holdings count)
   pub room : length budgets ≡ keptLimit
   pub rooms : length holdings ≡ keptLimit
   pub ceilings-most : (j : ℕ) → j < p .locks → getD ceilings j 0 ≤ 16
+  pub blocked-are : 1 ≤ count → (i : ℕ) → i < p .count → getD blocked i 0 ≡ blockingBy table ceilings (p .locks) i
 
 module _ (p : Part) (c : Columns) (k : Locks) (table : List ℕ) (ready : Prepared p c k table) where
   pub times-fine : FineTimes (c .separations) (c .costs) (p .count)
@@ -64,16 +65,17 @@ module _ (p : Part) (c : Columns) (k : Locks) (table : List ℕ) (ready : Prepar
   pub blockings-fine : (ceilings : List ℕ) (i : ℕ) → i < p .count → blockingBy table ceilings (p .locks) i ≤ numberLimit
   blockings-fine ceilings i h = blocking-small p (ready .fine) i h table ceilings (ready .below)
 
-  pub searching-start : (times : List ℕ) → FirstTimes (p .shared) times → (x : ℕ) → numberLimit < x → Searching p c (k .lowest) times (replicate 16 x) 1 (replicate keptLimit 0) (replicate keptLimit 0) 0 numberLimit
+  pub searching-start : (times : List ℕ) → FirstTimes (p .shared) times → (x : ℕ) → numberLimit < x → Searching p c table (k .lowest) times (replicate 16 x) 1 (replicate keptLimit 0) (replicate keptLimit 0) 0 numberLimit
   searching-start times first x h = record {
     search = search-start p (ready .fine) c k (ready .locks) (ready .period-some) times first x h;
     walked = subst (Walked (partitionOf p) numberLimit) (sym (pairs-none (replicate keptLimit 0) (replicate keptLimit 0))) (walked-start p (ready .fine));
     room = length-replicate {A = ℕ} keptLimit 0;
     rooms = length-replicate {A = ℕ} keptLimit 0;
     ceilings-most = λ j l. omega (arith, ready .locks .lowest j l, lowest-most p (ready .fine) _ (omega arith) l, ready .fine .few);
+    blocked-are = λ o. absurd (omega arith);
   }
 
-  module _ (ceilings times blocked : List ℕ) (budget : ℕ) (budgets holdings : List ℕ) (count x : ℕ) (s : Searching p c ceilings times blocked budget budgets holdings count x) where
+  module _ (ceilings times blocked : List ℕ) (budget : ℕ) (budgets holdings : List ℕ) (count x : ℕ) (s : Searching p c table ceilings times blocked budget budgets holdings count x) where
     pub pairs-few : count ≤ keptLimit
     pairs-few = omega (arith, pairs-length budgets holdings count, walked-few p (ready .fine) _ (pairsOf budgets holdings count) (s .walked))
 
@@ -87,6 +89,9 @@ module _ (p : Part) (c : Columns) (k : Locks) (table : List ℕ) (ready : Prepar
     module _ (r : Raised) (is : RaisedIs (ceilingAt (timesOf (c .separations) (c .costs) (p .count)) (k .longest) (k .deadlines) ceilings times x) (p .locks) r) where
       pub none-raised : r .found ≡ false → keptAnswer (pairsOf budgets holdings count) ≡ keptOf (partitionOf p)
       none-raised e = complete (raise-missed p (ready .fine) c (ready .columns) k (ready .locks) x ceilings times blocked budget (s .search) r is _ (s .walked) e)
+
+      pub ceilings-raised : r .found ≡ true → (j : ℕ) → j < p .locks → getD (r .ceilings) j 0 ≤ 16
+      ceilings-raised f = raised-most p (ready .fine) c (ready .columns) k (ready .locks) x ceilings times blocked budget (s .search) r is f
 
       module _ (yes : r .found ≡ true) (b : Budgeted) (has : BudgetIs (budgetStep (timesOf (c .separations) (c .costs) (p .count)) (c .costs) (c .deadlines) (p .period) (blockingBy table (r .ceilings) (p .locks)) blocked) (blockingBy table (r .ceilings) (p .locks)) (p .count) budget b) where
         pub none-passes : b .found ≡ false → keptAnswer (pairsOf budgets holdings count) ≡ keptOf (partitionOf p)
@@ -116,11 +121,12 @@ module _ (p : Part) (c : Columns) (k : Locks) (table : List ℕ) (ready : Prepar
             pub end-reached : r .holding ≡ 0 → keptAnswer (pairsOf (set budgets end (b .budget)) (set holdings end (r .holding)) (end + 1)) ≡ keptOf (partitionOf p)
             end-reached z = ap keptAnswer (stored ∙ walk-zero (partitionOf p) _ (subst (λ (e : ℕ). WalkedFrom (partitionOf p) e (pushed (b .budget) (r .holding) (pairsOf budgets holdings count))) z pushed-walked))
 
-            pub searching-next : 1 ≤ r .holding → Searching p c (r .ceilings) (r .times) (b .blocked) (b .budget) (set budgets end (b .budget)) (set holdings end (r .holding)) (end + 1) (r .holding - 1)
+            pub searching-next : 1 ≤ r .holding → Searching p c table (r .ceilings) (r .times) (b .blocked) (b .budget) (set budgets end (b .budget)) (set holdings end (r .holding)) (end + 1) (r .holding - 1)
             searching-next h = record {
               search = search-next p (ready .fine) c (ready .columns) k (ready .locks) x ceilings times blocked budget (s .search) r is yes table (ready .below) b has ok h;
               walked = subst (Walked (partitionOf p) (r .holding - 1)) (sym stored) (turn-next p (ready .fine) c (ready .columns) k (ready .locks) x ceilings times blocked budget (s .search) r is yes table (ready .below) b has ok _ (s .walked) h);
               room = length-set budgets end (b .budget) ∙ s .room;
               rooms = length-set holdings end (r .holding) ∙ s .rooms;
-              ceilings-most = raised-most p (ready .fine) c (ready .columns) k (ready .locks) x ceilings times blocked budget (s .search) r is yes;
+              blocked-are = λ o. has .tested ok;
+              ceilings-most = ceilings-raised yes;
             }

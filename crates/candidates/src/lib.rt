@@ -7,9 +7,10 @@ use refusal::NUMBER_LIMIT;
 use refusal::USE_PLACES;
 use task_set::Part;
 ghost use mathlib.Core.Path.{_≡_};
+ghost use mathlib.Core.Bool.{false};
 ghost use Prim.Native.Nat.{ℕ, suc, _≤_, _<_};
 ghost use lib.ListN.{getD, drop};
-ghost use Rattle.refusal.specs.Limits.{numberLimit, keptLimit};
+ghost use Rattle.refusal.specs.Limits.{numberLimit, taskLimit, lockLimit, keptLimit};
 ghost use Rattle.demand.specs.Code.Demand.{costLimit};
 ghost use Rattle.task_set.specs.Code.Partition.{partitionOf};
 ghost use Rattle.task_set.specs.Code.Fine.{FinePart};
@@ -18,7 +19,7 @@ ghost use Rattle.task_set.specs.Code.ByLock.{blockingBy};
 ghost use Rattle.budget.specs.Code.Passing.{dueTask, NoneMet, PassedIs};
 ghost use Rattle.candidates.specs.Candidates.{keptAnswer};
 ghost use Rattle.candidates.specs.Code.Candidates.{keptOf};
-ghost use Rattle.candidates.specs.Code.KeptSearch.{firstTime, FirstTimes, budgetAgain, budgetStep, BudgetIs, hasPair, pairsOf, sumAt, LighterIs};
+ghost use Rattle.candidates.specs.Code.KeptSearch.{firstTime, FirstTimes, budgetAgain, budgetStep, BudgetIs, NoLonger, NoneLonger, hasPair, pairsOf, sumAt, LighterIs};
 
 // A candidate: a least passing budget Q with its setting's holding time X.
 #[repr(C)]
@@ -133,6 +134,108 @@ fn budget_under(
     }
 }
 
+// Whether the lock at the place j, its ceiling raised, blocks a task from `from` up to `to` for longer than it is blocked.
+fn blocks_longer(
+    below: &[u64; USE_PLACES],
+    blocked: &[u64; 16],
+    j: usize,
+    from: usize,
+    to: usize,
+) -> bool
+    requires { ⌜ (j < lockLimit) × (to ≤ taskLimit) ⌝ }
+    ensures { λ r. ⌜ (r ≡ false → NoLonger (now (below .entry)) (now (blocked .entry)) j from to) ⌝ }
+{
+    let mut k = from;
+    while k < to {
+        if blocked[k] < below[8 * k + j] {
+            return true;
+        }
+        k += 1;
+    }
+    false
+}
+
+// Whether one of m locks does; or its ceiling is not raised but lowered.
+fn some_longer(
+    below: &[u64; USE_PLACES],
+    blocked: &[u64; 16],
+    before: &[usize; 8],
+    ceilings: &[usize; 8],
+    m: usize,
+) -> bool
+    requires { ⌜ (m ≤ lockLimit) × ((j : ℕ) → j < m → getD (now ceilings) j 0 ≤ taskLimit) ⌝ }
+    ensures { λ r. ⌜ (r ≡ false → NoneLonger (now (below .entry)) (now (blocked .entry)) (now (before .entry)) (now (ceilings .entry)) m) ⌝ }
+{
+    let mut j = 0;
+    while j < m {
+        let from = before[j];
+        let to = ceilings[j];
+        if to < from {
+            return true;
+        }
+        if blocks_longer(below, blocked, j, from, to) {
+            return true;
+        }
+        j += 1;
+    }
+    false
+}
+
+// The least budget from q on once ceilings are raised. `first` is whether no blocking was tested yet; else those before were, and where no task is blocked for
+// longer, all is as it was. That a task is happens no more often than there are tasks, however many X a part has.
+fn budget_raised(
+    separations: &[u64; 16],
+    costs: &[u64; 16],
+    deadlines: &[u64; 16],
+    n: usize,
+    period: u64,
+    below: &[u64; USE_PLACES],
+    before: &[usize; 8],
+    ceilings: &[usize; 8],
+    m: usize,
+    first: bool,
+    tested: [u64; 16],
+    q: u64,
+) -> Budgeted
+    requires { ⌜ FineTimes (now separations) (now costs) n × ((k : ℕ) → k < n → getD (now deadlines) k 0 ≤ numberLimit) × (period ≤ numberLimit) × (m ≤ 8) × ((k : ℕ) → k < n → blockingBy (now below) (now ceilings) m k ≤ numberLimit) × (1 ≤ q) × (q ≤ period) ⌝ }
+    requires { ⌜ ((j : ℕ) → j < m → getD (now ceilings) j 0 ≤ taskLimit) × (first ≡ false → (k : ℕ) → k < n → getD tested k 0 ≡ blockingBy (now below) (now before) m k) ⌝ }
+    ensures { λ r. ⌜ BudgetIs (budgetStep (timesOf (now (separations .entry)) (now (costs .entry)) n) (now (costs .entry)) (now (deadlines .entry)) period (blockingBy (now (below .entry)) (now (ceilings .entry)) m) tested) (blockingBy (now (below .entry)) (now (ceilings .entry)) m) n q r ⌝ }
+{
+    if first {
+        return budget_under(
+            separations,
+            costs,
+            deadlines,
+            n,
+            period,
+            below,
+            ceilings,
+            m,
+            tested,
+            q,
+        );
+    }
+    if some_longer(below, &tested, before, ceilings, m) {
+        return budget_under(
+            separations,
+            costs,
+            deadlines,
+            n,
+            period,
+            below,
+            ceilings,
+            m,
+            tested,
+            q,
+        );
+    }
+    Budgeted {
+        found: true,
+        blocked: tested,
+        budget: q,
+    }
+}
+
 // How many pairs are left once those at the end with a sum Q + X of at least s are dropped.
 fn lighter_count(
     budgets: &[u64; KEPT_LIMIT],
@@ -232,18 +335,21 @@ pub fn kept_of(part: Part) -> Kept
         if !raised.found {
             return kept_list(&budgets, &holdings, count);
         }
+        let before = ceilings;
         ceilings = raised.ceilings;
         times = raised.times;
         let holding = raised.holding;
-        let passing = budget_under(
+        let passing = budget_raised(
             &separations,
             &costs,
             &deadlines,
             part.count,
             part.period,
             &below,
+            &before,
             &ceilings,
             part.locks,
+            count == 0,
             blocked,
             budget,
         );

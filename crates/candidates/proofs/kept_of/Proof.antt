@@ -2,21 +2,22 @@
 -- Assumes nothing.
 use Prim.Native.Nat.{ℕ, _+_, _≤_, _<_}
 use native.Mathlib.Omega.{arith}
-use borrow.Author.Tests.{not-true, not-false}
+use borrow.Author.Tests.{not-true, not-false, eqb-false}
 use mathlib.Core.Path.{_≡_, _∙_}
-use mathlib.Core.Bool.{true}
+use mathlib.Core.Bool.{true, false}
+use lib.Dec.{eqb}
 use mathlib.Core.List.{List}
 use Rattle.refusal.specs.Limits.{numberLimit, keptLimit}
 use Rattle.task_set.specs.declared.Part.{Part}
 use Rattle.task_set.specs.declared.Columns.{Columns}
 use Rattle.task_set.specs.declared.Locks.{Locks}
-use Rattle.candidates.proofs.Searching.{Prepared, Searching, times-fine, locks-fine, deadlines-fine, blockings-fine, searching-start, pairs-few, sums-small, none-raised, none-passes, holding-falls, sum-small, end-fits, end-reached, searching-next}
+use Rattle.candidates.proofs.Searching.{Prepared, Searching, times-fine, locks-fine, deadlines-fine, blockings-fine, searching-start, pairs-few, sums-small, none-raised, ceilings-raised, none-passes, holding-falls, sum-small, end-fits, end-reached, searching-next}
 use Rattle.candidates.proofs.kept_of.Statement.{statement}
 use Rattle.candidates.proofs.kept_of.Tie as tie
 
 abbrev Inv-loop : tie.InvT-loop
 Inv-loop part separations costs deadlines longest limits below times₀ ceilings₀ blocked₀ budget₀ budgets₀ holdings₀ count₀ x₀ times ceilings blocked budget budgets holdings count x =
-    Searching part (record { separations = separations; costs = costs; deadlines = deadlines }) ceilings times blocked budget budgets holdings count x
+    Searching part (record { separations = separations; costs = costs; deadlines = deadlines }) below ceilings times blocked budget budgets holdings count x
 
 abbrev μ-loop : tie.MeasureT-loop
 μ-loop part separations costs deadlines longest limits below times₀ ceilings₀ blocked₀ budget₀ budgets₀ holdings₀ count₀ x₀ times ceilings blocked budget budgets holdings count x = x
@@ -50,17 +51,17 @@ ready c =
 abbrev before-loop : tie.After-raise Inv-loop μ-loop → tie.After-longest-below Inv-loop μ-loop
 before-loop c = c .before .before .before .before .before .before .before .before .before .before
 
-abbrev raise-of : tie.After-budget-under Inv-loop μ-loop → tie.After-raise Inv-loop μ-loop
-raise-of c = c .before .before .before .before .before .before .before .before .before .before
+abbrev raise-of : tie.After-budget-raised Inv-loop μ-loop → tie.After-raise Inv-loop μ-loop
+raise-of c = c .before .before .before .before .before .before .before .before .before .before .before
 
-abbrev budget-of : tie.After-lighter-count Inv-loop μ-loop → tie.After-budget-under Inv-loop μ-loop
+abbrev budget-of : tie.After-lighter-count Inv-loop μ-loop → tie.After-budget-raised Inv-loop μ-loop
 budget-of c = c .before .before .before .before .before .before
 
 -- the tests that were passed on the way
-found : (c : tie.After-budget-under Inv-loop μ-loop) → raise-of c .raise .result .found ≡ true
-found c = not-false _ (c .before .before .before .before .before .before .before .before .if1 .left)
+found : (c : tie.After-budget-raised Inv-loop μ-loop) → raise-of c .raise .result .found ≡ true
+found c = not-false _ (c .before .before .before .before .before .before .before .before .before .if1 .left)
 
-passes : (c : tie.After-lighter-count Inv-loop μ-loop) → budget-of c .budget-under .result .found ≡ true
+passes : (c : tie.After-lighter-count Inv-loop μ-loop) → budget-of c .budget-raised .result .found ≡ true
 passes c = not-false _ (c .before .before .before .before .if2 .left)
 
 columns-of-requires : tie.Need-columns-of-requires Inv-loop μ-loop
@@ -101,13 +102,19 @@ returns c =
     let at = r .before .before .before .before .before .loop in
     c .kept-list .ensures ∙ none-raised (part d) (columns d) (locks d) (table d) (ready d) (at .ceilings) (at .times) (at .blocked) (at .budget) (at .budgets) (at .holdings) (at .count) (at .x) (at .inv) (r .raise .result) (r .raise .ensures) (not-true _ (c .before .before .before .if1 .taken))
 
-budget-under-requires : tie.Need-budget-under-requires Inv-loop μ-loop
-budget-under-requires c κs =
-    let r = c .before .before .before .before .before .before .before .before .before in
+not-zero : (n : ℕ) → eqb n 0 ≡ false → 1 ≤ n
+not-zero n e = let h : n ≡ 0 → ⊥ = eqb-false n 0 e in omega arith
+
+budget-raised-requires : tie.Need-budget-raised-requires Inv-loop μ-loop
+budget-raised-requires c κs =
+    let r = c .before .before .before .before .before .before .before .before .before .before in
     let d = before-loop r in
     let at = r .before .before .before .before .before .loop in
     let s = at .inv .search in
-    (times-fine (part d) (columns d) (locks d) (table d) (ready d), deadlines-fine (part d) (columns d) (locks d) (table d) (ready d), ready d .period-most, ready d .fine .few-locks, blockings-fine (part d) (columns d) (locks d) (table d) (ready d) (r .raise .result .ceilings), s .from, s .most)
+    let yes = not-false _ (c .before .before .before .before .before .before .before .before .if1 .left) in (
+      (times-fine (part d) (columns d) (locks d) (table d) (ready d), deadlines-fine (part d) (columns d) (locks d) (table d) (ready d), ready d .period-most, ready d .fine .few-locks, blockings-fine (part d) (columns d) (locks d) (table d) (ready d) (r .raise .result .ceilings), s .from, s .most),
+      (ceilings-raised (part d) (columns d) (locks d) (table d) (ready d) (at .ceilings) (at .times) (at .blocked) (at .budget) (at .budgets) (at .holdings) (at .count) (at .x) (at .inv) (r .raise .result) (r .raise .ensures) yes, λ e. at .inv .blocked-are (not-zero (at .count) e)),
+    )
 
 kept-list-requires-2 : tie.Need-kept-list-requires-2 Inv-loop μ-loop
 kept-list-requires-2 c κs = few (raise-of (c .before .before .before .before))
@@ -118,7 +125,7 @@ returns-2 c =
     let r = raise-of b in
     let d = before-loop r in
     let at = r .before .before .before .before .before .loop in
-    c .kept-list2 .ensures ∙ none-passes (part d) (columns d) (locks d) (table d) (ready d) (at .ceilings) (at .times) (at .blocked) (at .budget) (at .budgets) (at .holdings) (at .count) (at .x) (at .inv) (r .raise .result) (r .raise .ensures) (found b) (b .budget-under .result) (b .budget-under .ensures) (not-true _ (c .before .before .before .if2 .taken))
+    c .kept-list2 .ensures ∙ none-passes (part d) (columns d) (locks d) (table d) (ready d) (at .ceilings) (at .times) (at .blocked) (at .budget) (at .budgets) (at .holdings) (at .count) (at .x) (at .inv) (r .raise .result) (r .raise .ensures) (found b) (b .budget-raised .result) (b .budget-raised .ensures) (not-true _ (c .before .before .before .if2 .taken))
 
 add-lighter-count : tie.Need-add-lighter-count Inv-loop μ-loop
 add-lighter-count c =
@@ -126,7 +133,7 @@ add-lighter-count c =
     let r = raise-of b in
     let d = before-loop r in
     let at = r .before .before .before .before .before .loop in
-    omega (arith, sum-small (part d) (columns d) (locks d) (table d) (ready d) (at .ceilings) (at .times) (at .blocked) (at .budget) (at .budgets) (at .holdings) (at .count) (at .x) (at .inv) (r .raise .result) (r .raise .ensures) (found b) (b .budget-under .result) (b .budget-under .ensures) (not-false _ (c .before .before .before .if2 .left)))
+    omega (arith, sum-small (part d) (columns d) (locks d) (table d) (ready d) (at .ceilings) (at .times) (at .blocked) (at .budget) (at .budgets) (at .holdings) (at .count) (at .x) (at .inv) (r .raise .result) (r .raise .ensures) (found b) (b .budget-raised .result) (b .budget-raised .ensures) (not-false _ (c .before .before .before .if2 .left)))
 
 lighter-count-requires : tie.Need-lighter-count-requires Inv-loop μ-loop
 lighter-count-requires c κs =
@@ -142,7 +149,7 @@ fits c =
     let r = raise-of b in
     let d = before-loop r in
     let at = r .before .before .before .before .before .loop in
-    end-fits (part d) (columns d) (locks d) (table d) (ready d) (at .ceilings) (at .times) (at .blocked) (at .budget) (at .budgets) (at .holdings) (at .count) (at .x) (at .inv) (r .raise .result) (r .raise .ensures) (found b) (b .budget-under .result) (b .budget-under .ensures) (passes c) (c .lighter-count .result) (c .lighter-count .ensures)
+    end-fits (part d) (columns d) (locks d) (table d) (ready d) (at .ceilings) (at .times) (at .blocked) (at .budget) (at .budgets) (at .holdings) (at .count) (at .x) (at .inv) (r .raise .result) (r .raise .ensures) (found b) (b .budget-raised .result) (b .budget-raised .ensures) (passes c) (c .lighter-count .result) (c .lighter-count .ensures)
 
 mul-budgets : tie.Need-mul-budgets Inv-loop μ-loop
 mul-budgets c = omega (arith, fits c)
@@ -169,7 +176,7 @@ returns-3 c =
     let r = raise-of b in
     let d = before-loop r in
     let at = r .before .before .before .before .before .loop in
-    c .kept-list3 .ensures ∙ end-reached (part d) (columns d) (locks d) (table d) (ready d) (at .ceilings) (at .times) (at .blocked) (at .budget) (at .budgets) (at .holdings) (at .count) (at .x) (at .inv) (r .raise .result) (r .raise .ensures) (found b) (b .budget-under .result) (b .budget-under .ensures) (passes l) (l .lighter-count .result) (l .lighter-count .ensures) (c .before .before .before .if3 .taken)
+    c .kept-list3 .ensures ∙ end-reached (part d) (columns d) (locks d) (table d) (ready d) (at .ceilings) (at .times) (at .blocked) (at .budget) (at .budgets) (at .holdings) (at .count) (at .x) (at .inv) (r .raise .result) (r .raise .ensures) (found b) (b .budget-raised .result) (b .budget-raised .ensures) (passes l) (l .lighter-count .result) (l .lighter-count .ensures) (c .before .before .before .if3 .taken)
 
 sub-x : tie.Need-sub-x Inv-loop μ-loop
 sub-x c = let h = c .if3 .left in omega arith
@@ -181,7 +188,7 @@ loop-less c =
     let r = raise-of b in
     let d = before-loop r in
     let at = r .before .before .before .before .before .loop in
-    omega (arith, holding-falls (part d) (columns d) (locks d) (table d) (ready d) (at .ceilings) (at .times) (at .blocked) (at .budget) (at .budgets) (at .holdings) (at .count) (at .x) (at .inv) (r .raise .result) (r .raise .ensures) (found b) (b .budget-under .result) (b .budget-under .ensures) (passes l))
+    omega (arith, holding-falls (part d) (columns d) (locks d) (table d) (ready d) (at .ceilings) (at .times) (at .blocked) (at .budget) (at .budgets) (at .holdings) (at .count) (at .x) (at .inv) (r .raise .result) (r .raise .ensures) (found b) (b .budget-raised .result) (b .budget-raised .ensures) (passes l))
 
 loop-again : tie.Need-loop-again Inv-loop μ-loop
 loop-again c =
@@ -190,7 +197,7 @@ loop-again c =
     let r = raise-of b in
     let d = before-loop r in
     let at = r .before .before .before .before .before .loop in
-    searching-next (part d) (columns d) (locks d) (table d) (ready d) (at .ceilings) (at .times) (at .blocked) (at .budget) (at .budgets) (at .holdings) (at .count) (at .x) (at .inv) (r .raise .result) (r .raise .ensures) (found b) (b .budget-under .result) (b .budget-under .ensures) (passes l) (l .lighter-count .result) (l .lighter-count .ensures) (omega arith)
+    searching-next (part d) (columns d) (locks d) (table d) (ready d) (at .ceilings) (at .times) (at .blocked) (at .budget) (at .budgets) (at .holdings) (at .count) (at .x) (at .inv) (r .raise .result) (r .raise .ensures) (found b) (b .budget-raised .result) (b .budget-raised .ensures) (passes l) (l .lighter-count .result) (l .lighter-count .ensures) (omega arith)
 
 pub kept-of-spec : {M : Type 1} → statement M
 kept-of-spec =
@@ -206,7 +213,7 @@ kept-of-spec =
     raise-requires
     kept-list-requires
     returns
-    budget-under-requires
+    budget-raised-requires
     kept-list-requires-2
     returns-2
     add-lighter-count

@@ -4,11 +4,13 @@
 --   budgetAgain P b tested task higher q == the least budget from q on; a blocking that was tested before asks for no more
 --   budgetDown step k q == the least budget from q on after the steps of the places k − 1, .., 0
 --   BudgetIs step blocking n q r == r holds that budget of n places, and the blocking of each task, which is then tested
+--   NoLonger below blocked j from to == the lock at the place j, from the table `below`, blocks no task from the place `from` up to `to` for longer than it is blocked
+--   NoneLonger below blocked before ceilings m == m ceilings are raised, and no lock blocks a task for longer that it reaches only now
 --   hasPair v == some permitted setting has a budget: there is a kept pair
 --   pairsOf budgets holdings n == the first n pairs of two arrays
 --   LighterIs budgets holdings n s r == the first r of n pairs are left once those at the end with a sum of at least s are dropped
 -- Assumes nothing.
-use Prim.Native.Nat.{ℕ, zero, suc, _+_, _≤_, _<_}
+use Prim.Native.Nat.{ℕ, zero, suc, _+_, _*_, _≤_, _<_}
 use mathlib.Core.Path.{_≡_}
 use mathlib.Core.Bool.{Bool, true, false, cond, not}
 use mathlib.Core.List.{List, map}
@@ -50,6 +52,12 @@ pub record BudgetIs (step : ℕ → ℕ → Least) (blocking : ℕ → ℕ) (n q
   pub value : r .found ≡ true → budgetDown step n q ≡ At (r .budget)
   pub tested : r .found ≡ true → (k : ℕ) → k < n → getD (r .blocked) k 0 ≡ blocking k
   pub missed : r .found ≡ false → budgetDown step n q ≡ Nothing
+
+abbrev pub NoLonger : List ℕ → List ℕ → ℕ → ℕ → ℕ → Type 0
+NoLonger below blocked j from to = (k : ℕ) → from ≤ k → k < to → getD below (8 * k + j) 0 ≤ getD blocked k 0
+
+abbrev pub NoneLonger : List ℕ → List ℕ → List ℕ → List ℕ → ℕ → Type 0
+NoneLonger below blocked before ceilings m = (j : ℕ) → j < m → (getD before j 0 ≤ getD ceilings j 0) × NoLonger below blocked j (getD before j 0) (getD ceilings j 0)
 
 -- pairs
 
