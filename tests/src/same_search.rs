@@ -6,8 +6,9 @@
 //! - [`choice`]: bounds of rows, and the selection of least load
 //!
 //! Reading, rows, the test of a kept pair and the printed bytes are those of the reference. Settings
-//! and climbs are those of the library; what is kept between them is not: blockings are carried from
-//! setting to setting, where the library works them out anew.
+//! and climbs are those of the library, and so is that a budget is looked at again only where a
+//! task is blocked for longer; the blockings themselves are carried from setting to setting here,
+//! where the library then works them out anew.
 
 pub mod choice;
 pub mod climb;
