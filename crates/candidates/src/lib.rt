@@ -155,8 +155,9 @@ fn blocks_longer(
     false
 }
 
-// Whether one of m locks does; or its ceiling is not raised but lowered.
-fn some_longer(
+// Whether a blocking may not have been tested: none was yet, one of m locks blocks a task for longer, or its ceiling is not raised but lowered.
+fn is_to_test(
+    first: bool,
     below: &[u64; USE_PLACES],
     blocked: &[u64; 16],
     before: &[usize; 8],
@@ -164,8 +165,11 @@ fn some_longer(
     m: usize,
 ) -> bool
     requires { ⌜ (m ≤ lockLimit) × ((j : ℕ) → j < m → getD (now ceilings) j 0 ≤ taskLimit) ⌝ }
-    ensures { λ r. ⌜ (r ≡ false → NoneLonger (now (below .entry)) (now (blocked .entry)) (now (before .entry)) (now (ceilings .entry)) m) ⌝ }
+    ensures { λ r. ⌜ (r ≡ false → (first ≡ false) × NoneLonger (now (below .entry)) (now (blocked .entry)) (now (before .entry)) (now (ceilings .entry)) m) ⌝ }
 {
+    if first {
+        return true;
+    }
     let mut j = 0;
     while j < m {
         let from = before[j];
@@ -201,21 +205,7 @@ fn budget_raised(
     requires { ⌜ ((j : ℕ) → j < m → getD (now ceilings) j 0 ≤ taskLimit) × (first ≡ false → (k : ℕ) → k < n → getD tested k 0 ≡ blockingBy (now below) (now before) m k) ⌝ }
     ensures { λ r. ⌜ BudgetIs (budgetStep (timesOf (now (separations .entry)) (now (costs .entry)) n) (now (costs .entry)) (now (deadlines .entry)) period (blockingBy (now (below .entry)) (now (ceilings .entry)) m) tested) (blockingBy (now (below .entry)) (now (ceilings .entry)) m) n q r ⌝ }
 {
-    if first {
-        return budget_under(
-            separations,
-            costs,
-            deadlines,
-            n,
-            period,
-            below,
-            ceilings,
-            m,
-            tested,
-            q,
-        );
-    }
-    if some_longer(below, &tested, before, ceilings, m) {
+    if is_to_test(first, below, &tested, before, ceilings, m) {
         return budget_under(
             separations,
             costs,

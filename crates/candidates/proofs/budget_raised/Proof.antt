@@ -10,31 +10,25 @@ use Rattle.candidates.proofs.Raises.{blocking-stays, budget-stays}
 use Rattle.candidates.proofs.budget_raised.Statement.{statement}
 use Rattle.candidates.proofs.budget_raised.Tie as tie
 
+is-to-test-requires : tie.Need-is-to-test-requires
+is-to-test-requires c κs = search needs
+
 budget-under-requires : tie.Need-budget-under-requires
 budget-under-requires c κs = search needs
 
 returns : tie.Need-returns
 returns c = search needs
 
-some-longer-requires : tie.Need-some-longer-requires
-some-longer-requires c κs = search needs
-
-budget-under-requires-2 : tie.Need-budget-under-requires-2
-budget-under-requires-2 c κs = search needs
-
 returns-2 : tie.Need-returns-2
-returns-2 c = search needs
-
-returns-3 : tie.Need-returns-3
-returns-3 c =
-    let s = c .before .before .before .before in
+returns-2 c =
+    let s = c .before .before .before in
     let a = s .args in
-    let none = c .before .some-longer .ensures (c .if2 .left) in
-    let was = s .pre .1 .1 (c .before .before .before .if1 .left) in
+    let none = c .before .is-to-test .ensures (c .if1 .left) in
+    let was = s .pre .1 .1 (none .0) in
     let same : (k : ℕ) → k < a .n → getD (a .t11) k 0 ≡ blockingBy (a .below .now) (a .ceilings .now) (a .m) k =
-    λ k h. was k h ∙ sym (blocking-stays (a .below .now) (a .before .now) (a .ceilings .now) (a .m) (a .t11) none k (was k h)) in
+    λ k h. was k h ∙ sym (blocking-stays (a .below .now) (a .before .now) (a .ceilings .now) (a .m) (a .t11) (none .1) k (was k h)) in
     budget-stays (timesOf (a .separations .now) (a .costs .now) (a .n)) (a .costs .now) (a .deadlines .now) (a .period) (blockingBy (a .below .now) (a .ceilings .now) (a .m)) (a .t11) (a .q) (a .n) same _ refl
 
 pub budget-raised-spec : {M : Type 1} → statement M
 budget-raised-spec =
-    tie.close (tie.spec budget-under-requires returns some-longer-requires budget-under-requires-2 returns-2 returns-3)
+    tie.close (tie.spec is-to-test-requires budget-under-requires returns returns-2)
