@@ -53,8 +53,9 @@ typedef struct {
 planner_plan_answer planner_plan(const uint8_t *file, size_t length, uint8_t *out, size_t room);
 
 /* The kept list of a part, counted from 1: budgets Q with holding times X, in falling X; a part has
- * no more of them than tasks. X is that of the part's shared locks, those that another part names too; 0 without any. So the list depends
- * on the part's own lines and on which of its locks the rest of the file names. */
+ * no more of them than tasks. X is that of the part's shared locks, those that another part names
+ * too; 0 without any. So the list depends on the part's own lines and on which of its locks the rest
+ * of the file names. */
 typedef struct {
     uint64_t budget, holding;
 } planner_pair;

@@ -5,10 +5,11 @@
 //! - [`walk`]: the kept list of one part, and the ceilings shown
 //! - [`choice`]: bounds of rows, and the selection of least load
 //!
-//! Reading, rows, the test of a kept pair and the printed bytes are those of the reference. Settings
-//! and climbs are those of the library, and so is that a budget is looked at again only where a
-//! task is blocked for longer; the blockings themselves are carried from setting to setting here,
-//! where the library then works them out anew.
+//! What is no search is that of the reference: reading, the uses of a lock, the blockings at the
+//! lowest ceilings, demand and supply at one time, what a new pair drops, rows and the printed
+//! bytes. Settings and climbs are those of the library, and so is that a budget is looked at again
+//! only where a task is blocked for longer; the blockings themselves are carried from setting to
+//! setting here, where the library then works them out anew.
 
 pub mod choice;
 pub mod climb;

@@ -153,8 +153,8 @@ fn m113_full_kiosks_are_full_and_of_both_kinds() {
     );
 }
 
-/// The different X of permitted settings, by brute force: the holding times of each lock that are
-/// no shorter than what every lock has at some ceiling.
+/// The different X of permitted settings: each is the holding time of a lock at some ceiling, no
+/// shorter than the least of every other. Every lock is shared and has a permitted ceiling.
 fn holding_times(part: &literal::Part) -> BTreeSet<i64> {
     let times_of = |lock: &String| {
         let uses = |task: &literal::Task| task.locks.iter().any(|(name, _)| name == lock);
@@ -162,7 +162,9 @@ fn holding_times(part: &literal::Part) -> BTreeSet<i64> {
         let lowest = users.expect("a user") + 1;
         let ceilings = lowest..=part.tasks.len();
         let times = ceilings.filter_map(|ceiling| part.permitted_holding_time(lock, ceiling));
-        times.collect::<BTreeSet<i64>>()
+        let times = times.collect::<BTreeSet<i64>>();
+        assert!(!times.is_empty(), "lock {lock} of {}", part.name);
+        times
     };
     let times: Vec<BTreeSet<i64>> = part.shared.iter().map(times_of).collect();
     let least = times.iter().filter_map(|times| times.first()).max();
@@ -172,6 +174,17 @@ fn holding_times(part: &literal::Part) -> BTreeSet<i64> {
         .flatten()
         .filter(|&x| x >= least)
         .collect()
+}
+
+/// Two pairs of parts have the same X. Where the last part that holds for the blocking moved, which
+/// may stand above the row, no choice would be found.
+#[test]
+fn m113_the_first_part_that_causes_a_blocking_moves() {
+    let file = b"part\tp0\t72\ntask\tt0\t432\t5\t432\nlock\ta\t5\ntask\tt1\t288\t1\t207\n\
+        part\tp1\t39\ntask\tt0\t312\t7\t312\nlock\ta\t6\ntask\tt1\t156\t1\t110\ntask\tt2\t156\t1\t72\n\
+        part\tp2\t64\ntask\tt0\t384\t7\t384\nlock\ta\t6\ntask\tt1\t256\t1\t116\n\
+        part\tp3\t72\ntask\tt0\t432\t5\t432\nlock\ta\t5\ntask\tt1\t288\t1\t207\nend\n";
+    assert!(same_plan(file, PROGRAM_ROOM).is_ok());
 }
 
 #[test]

@@ -186,7 +186,7 @@ fn is_to_test(
 }
 
 // The least budget from q on once ceilings are raised. `first` is whether no blocking was tested yet; else those before were, and where no task is blocked for
-// longer, all is as it was. That a task is happens no more often than there are tasks, however many X a part has.
+// longer, all is as it was. That some task is blocked for longer happens less often than there are tasks, however many X a part has.
 fn budget_raised(
     separations: &[u64; 16],
     costs: &[u64; 16],

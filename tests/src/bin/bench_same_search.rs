@@ -12,11 +12,16 @@ use reference::{same_search, PROGRAM_ROOM};
 /// The seed of the made-up files, and how many there are.
 const MADE_UP: (u64, usize) = (113, 8);
 
-/// Times a plan of the file, prints its line and gives the ratio.
+/// Times a plan of the file, prints its line and gives the ratio. Both sides must answer the same.
 fn line(name: &str, bytes: &[u8], out: &mut [u8]) -> f64 {
-    let answer = match planner::plan_into(bytes, out) {
+    let planned = planner::plan_into(bytes, out).map(|listing| listing.to_vec());
+    let planned = planned.map_err(|refusal| (refusal.number, refusal.place));
+    let same = same_search::plan(bytes, PROGRAM_ROOM);
+    let same = same.map_err(|refusal| (refusal.number.into(), refusal.place as u64));
+    assert_eq!(planned, same, "{name}: the answers differ");
+    let answer = match planned {
         Ok(_) => "planned".to_owned(),
-        Err(refusal) => format!("{} ({})", refusal.number, refusal.place),
+        Err((number, place)) => format!("{number} ({place})"),
     };
     let (ours, theirs) = by_turns(
         || planner::plan_into(black_box(bytes), out).is_ok(),
