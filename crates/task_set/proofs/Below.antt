@@ -1,7 +1,7 @@
 -- The table of the longest uses by lower tasks, place by place.
 --   longestAt p k == what the table has at the place k
 -- Assumes nothing.
-use Prim.Native.Nat.{ℕ, suc, _+_, _-_, _*_, _/_, _%_, max, _≤_}
+use Prim.Native.Nat.{ℕ, suc, _+_, _-_, _*_, _/_, _%_, max, _≤_, _<_}
 use native.Mathlib.Omega.{arith}
 use mathlib.Core.Path.{_≡_, refl, sym, ap, ap₂, _∙_}
 use mathlib.Core.List.{List, map}
@@ -34,14 +34,16 @@ module _ (p : Part) where
   unfolding greatest
   below-start = record { room = length-replicate {A = ℕ} 128 0; each = λ k h. let e : k / 8 ≡ 0 = omega arith in getD-replicate 128 k 0 0 (omega arith) ∙ rw e refl }
 
-  pub below-next : (k : ℕ) → 8 ≤ k → longestAt p k ≡ max (longestAt p (k - 8)) (getD (getD (p .tasks) (k / 8 - 1) blankTask .uses) (k % 8) 0)
-  below-next k h =
-      let e : k / 8 ≡ suc (k / 8 - 1) = omega arith in
-      let i : (k - 8) / 8 ≡ k / 8 - 1 = omega arith in
-      let j : (k - 8) % 8 ≡ k % 8 = omega arith in
-      ap (λ (i : ℕ). longest p i (k % 8)) e
-      ∙ longest-next (k / 8 - 1) (k % 8)
-      ∙ ap (λ (x : ℕ). max x (getD (getD (p .tasks) (k / 8 - 1) blankTask .uses) (k % 8) 0)) (sym (ap₂ (longest p) i j))
+  -- k is the first place of a row
+  pub below-next : (k j : ℕ) → 8 ≤ k → k % 8 ≡ 0 → j < 8 → longestAt p (k + j) ≡ max (longestAt p (k + j - 8)) (getD (getD (p .tasks) (k / 8 - 1) blankTask .uses) j 0)
+  below-next k j h r l =
+      let i : (k + j) / 8 ≡ suc (k / 8 - 1) = omega arith in
+      let j-is : (k + j) % 8 ≡ j = omega arith in
+      let i-below : (k + j - 8) / 8 ≡ k / 8 - 1 = omega arith in
+      let j-below : (k + j - 8) % 8 ≡ j = omega arith in
+      ap₂ (longest p) i j-is
+      ∙ longest-next (k / 8 - 1) j
+      ∙ ap (λ (x : ℕ). max x (getD (getD (p .tasks) (k / 8 - 1) blankTask .uses) j 0)) (sym (ap₂ (longest p) i-below j-below))
 
   pub below-end : (table : List ℕ) (k : ℕ) → 128 ≤ k → Filled 0 (longestAt p) 128 table k → LongestBelow p table
   below-end table k h f i j a b =

@@ -70,7 +70,7 @@ module _ (lock : Lock) (number c deadline : ℕ) where
   unfolding withUser
   with-some h = rw (le-leb 1 c h) refl
 
-same-lock : (a b : Lock) → a .lowest ≡ b .lowest → a .longest ≡ b .longest → a .deadline ≡ b .deadline → a ≡ b
+pub same-lock : (a b : Lock) → a .lowest ≡ b .lowest → a .longest ≡ b .longest → a .deadline ≡ b .deadline → a ≡ b
 same-lock a b x y z = λ i. record { lowest = x i; longest = y i; deadline = z i }
 
 -- every task has a deadline

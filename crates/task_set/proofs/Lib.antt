@@ -5,6 +5,7 @@ pub mod Places
 pub mod Times
 pub mod ByColumn
 pub mod ByLock
+pub mod Walk
 pub mod Below
 pub mod Users
 pub mod BlockingAt

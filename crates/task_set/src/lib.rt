@@ -1,11 +1,10 @@
 // The tasks of a part and the locks that they share.
 use refusal::USE_PLACES;
 ghost use mathlib.Core.Path.{_≡_};
-ghost use Prim.Native.Nat.{suc, _≤_, _<_};
-ghost use Rattle.task_set.specs.Code.Tasks.{tasksOf};
+ghost use Prim.Native.Nat.{_≤_, _<_};
 ghost use Rattle.task_set.specs.Code.Fine.{FinePart};
 ghost use Rattle.task_set.specs.Code.ByColumn.{ColumnsAre};
-ghost use Rattle.task_set.specs.Code.ByLock.{lockOf, earlier, withUser, LocksAre, LongestBelow, blockedFor, blockingBy};
+ghost use Rattle.task_set.specs.Code.ByLock.{earlier, withUser, LocksAre, LongestBelow, blockedFor, blockingBy};
 
 // A task: least separation T, worst execution time C, deadline D; and for each lock of the part, in order of first mention, how long the
 // task holds it at most, 0 where it does not use it.
@@ -95,25 +94,7 @@ fn with_user(lock: Lock, number: usize, c: u64, deadline: u64) -> Lock
     }
 }
 
-// The lock at the place j, from 0: the lock with the number j + 1.
-pub fn lock_at(part: Part, j: usize) -> Lock
-    requires { ⌜ FinePart part × (j < part .locks) ⌝ }
-    ensures { λ r. ⌜ r ≡ lockOf (suc j) (tasksOf part) ⌝ }
-{
-    let mut lock = Lock {
-        lowest: 0,
-        longest: 0,
-        deadline: 0,
-    };
-    let mut k = 0;
-    while k < part.count {
-        let t = part.tasks[k];
-        lock = with_user(lock, k + 1, t.uses[j], t.deadline);
-        k += 1;
-    }
-    lock
-}
-
+// The locks of a part, from one walk over its tasks. What stands past them does not count: with the number of places written out the inner loop is unrolled.
 pub fn locks_of(part: Part) -> Locks
     requires { ⌜ FinePart part ⌝ }
     ensures { λ r. ⌜ LocksAre part r ⌝ }
@@ -121,13 +102,23 @@ pub fn locks_of(part: Part) -> Locks
     let mut lowest = [0usize; 8];
     let mut longest = [0u64; 8];
     let mut deadlines = [0u64; 8];
-    let mut j = 0;
-    while j < part.locks {
-        let lock = lock_at(part, j);
-        lowest[j] = lock.lowest;
-        longest[j] = lock.longest;
-        deadlines[j] = lock.deadline;
-        j += 1;
+    let mut k = 0;
+    while k < part.count {
+        let t = part.tasks[k];
+        let mut j = 0;
+        while j < 8 {
+            let mut lock = Lock {
+                lowest: lowest[j],
+                longest: longest[j],
+                deadline: deadlines[j],
+            };
+            lock = with_user(lock, k + 1, t.uses[j], t.deadline);
+            lowest[j] = lock.lowest;
+            longest[j] = lock.longest;
+            deadlines[j] = lock.deadline;
+            j += 1;
+        }
+        k += 1;
     }
     Locks {
         lowest,
@@ -144,8 +135,12 @@ pub fn longest_below(part: Part) -> [u64; USE_PLACES]
     let mut k = 8;
     while k < USE_PLACES {
         let t = part.tasks[k / 8 - 1];
-        table[k] = least::larger(table[k - 8], t.uses[k % 8]);
-        k += 1;
+        let mut j = 0;
+        while j < 8 {
+            table[k + j] = least::larger(table[k + j - 8], t.uses[j]);
+            j += 1;
+        }
+        k += 8;
     }
     table
 }
@@ -157,8 +152,8 @@ fn blocked_for(ceiling: usize, c: u64, i: usize) -> u64
     if i < ceiling { c } else { 0 }
 }
 
-// The blocking of the task at the place i under these ceilings of m locks, from the table of `longest_below`.
-pub fn blocking_at(below: &[u64; USE_PLACES], ceilings: &[usize; 8], m: usize, i: usize) -> u64
+// The longest that one of the m locks with these ceilings blocks the task at the place i, from the table of `longest_below`.
+fn longest_blocked(below: &[u64; USE_PLACES], ceilings: &[usize; 8], m: usize, i: usize) -> u64
     requires { ⌜ (m ≤ 8) × (i < 16) ⌝ }
     ensures { λ r. ⌜ r ≡ blockingBy (now (below .entry)) (now (ceilings .entry)) m i ⌝ }
 {
@@ -169,4 +164,15 @@ pub fn blocking_at(below: &[u64; USE_PLACES], ceilings: &[usize; 8], m: usize, i
         j += 1;
     }
     greatest
+}
+
+// The blocking of the task at the place i under these ceilings of m locks. All eight have a call of their own: with the number written out the compiler leaves no loop.
+pub fn blocking_at(below: &[u64; USE_PLACES], ceilings: &[usize; 8], m: usize, i: usize) -> u64
+    requires { ⌜ (m ≤ 8) × (i < 16) ⌝ }
+    ensures { λ r. ⌜ r ≡ blockingBy (now (below .entry)) (now (ceilings .entry)) m i ⌝ }
+{
+    if m == 8 {
+        return longest_blocked(below, ceilings, 8, i);
+    }
+    longest_blocked(below, ceilings, m, i)
 }
