@@ -2,6 +2,7 @@
 -- Assumes nothing.
 use Prim.Native.Nat.{ℕ, _-_, _≤_, _<_}
 use native.Mathlib.Omega.{arith}
+use borrow.Author.Tests.{eq-eqb, ne-eqb}
 use mathlib.Core.Bool.{false}
 use mathlib.Core.Path.{_≡_, refl, sym, ap, _∙_, subst, subst₂}
 use mathlib.Core.List.{List, []}
@@ -18,7 +19,7 @@ use Rattle.records.specs.Code.Cursor.{recordAs, RecordIs}
 use Rattle.plan_file.specs.declared.Seen.{Seen}
 use Rattle.plan_file.specs.declared.Entry.the-variants.{Part as PartEntry, Task as TaskEntry, Lock as LockEntry, End as EndEntry}
 use Rattle.plan_file.specs.Above.{Above, thisPart, lockNames, after}
-use Rattle.plan_file.specs.Code.Entries.{noTaskRead, placeAmong, withName, entryOf, seenPart, seenTask, seenLock, seenEnd}
+use Rattle.plan_file.specs.Code.Entries.{noTaskRead, placeAmong, withName, withLockName, entryOf, seenPart, seenTask, seenLock, seenEnd}
 use Rattle.plan_file.specs.Stretches.{spanOn}
 use Rattle.plan_file.proofs.SeenNames.{place-mention}
 use Rattle.plan_file.proofs.SeenTasks.{taskWith}
@@ -121,6 +122,15 @@ module _ {n : ℕ} (s : List ℕ) (c : Cursor) (seen : Seen) (opened : ℕ) (nam
         let to = stands-lock s seen opened name period tasks all a (reading .stands) nm (e .c) (e .task-above) (e .new) (e .few) (e .part-above) (e .positive) in
         subst₂ (λ (k x : ℕ). Reading n s next (seenLock seen nm k (storedUse (seen .last) k x)) opened name period (set tasks (seen .tasks .count - 1) (storedUse (seen .last) k x)) all) (sym (e .place)) (sym (e .value))
         (goes-on (lock (bytesOf s nm) (e .c)) (e .is) (e .done) to (same-names _ (e .is) refl))
+
+    -- the lock's name is the next of the part, or one of those above
+    pub reading-new-lock : j ≡ seen .locks .count → Reading n s next (record { fresh = false; ended = false; parts = seen .parts; tasks = seen .tasks; locks = withName (seen .locks) nm; last = heldAt (seen .last) j v }) opened name period (set tasks (seen .tasks .count - 1) (heldAt (seen .last) j v)) all
+    unfolding seenLock withLockName
+    reading-new-lock e = simp (eq-eqb _ _ e) at reading-lock
+
+    pub reading-known-lock : (j ≡ seen .locks .count → ⊥) → Reading n s next (record { fresh = false; ended = false; parts = seen .parts; tasks = seen .tasks; locks = seen .locks; last = heldAt (seen .last) j v }) opened name period (set tasks (seen .tasks .count - 1) (heldAt (seen .last) j v)) all
+    unfolding seenLock withLockName
+    reading-known-lock e = simp (ne-eqb _ _ e) at reading-lock
 
   pub reading-end : entryOf s (c .line) seen r ≡ EndEntry → Reading n s next (seenEnd seen) opened name period tasks (set all opened closed)
   unfolding seenEnd spanOn closedPart

@@ -1,6 +1,7 @@
 // The reader of a plan file: questions 1 to 9, line by line, then which locks are shared.
 use plan_file::Entry;
 use plan_file::Names;
+use plan_file::Seen;
 use records::Cursor;
 use records::Next;
 use refusal::CEILING_PLACES;
@@ -12,8 +13,7 @@ use task_set::Part;
 use task_set::Task;
 ghost use mathlib.Core.Path.{_≡_};
 ghost use Prim.Native.Nat.{_<_, _^_};
-ghost use Rattle.refusal.specs.Limits.{lockLimit};
-ghost use Rattle.reader.specs.Code.Reader.{noPartRead, closedPart, refusedFile, heldAt, ReadFromIs};
+ghost use Rattle.reader.specs.Code.Reader.{noPartRead, closedPart, refusedFile, ReadFromIs};
 
 // A part that was read: its name and the names of its locks as stretches of the file, and its numbers.
 pub struct PartRead {
@@ -65,16 +65,6 @@ fn refused_file(r: Refusal) -> PlanFile
     }
 }
 
-// A task that holds its part's lock at the place j for c ticks.
-fn held_at(task: Task, j: usize, c: u64) -> Task
-    requires { ⌜ j < lockLimit ⌝ }
-    ensures { λ r. ⌜ r ≡ heldAt task j c ⌝ }
-{
-    let mut t = task;
-    t.uses[j] = c;
-    t
-}
-
 // A file whose first line has this number: its lines are read, then the locks of its parts are marked.
 pub fn read_file(s: &[u8], first: u64) -> PlanFile
     requires { ⌜ first < 2 ^ 62 ⌝ }
@@ -84,19 +74,26 @@ pub fn read_file(s: &[u8], first: u64) -> PlanFile
         return refused_file(Refusal::FileTooLong);
     }
     let mut c = Cursor::new(first);
-    let mut seen = plan_file::none_seen();
     let no_one = plan_file::no_task();
+    let none = plan_file::no_names();
     let nothing = no_part();
     let mut all = [nothing; 16];
     let mut open = 0;
     let mut name = Span { start: 0, len: 0 };
     let mut period = 0;
     let mut tasks = [no_one; 16];
+    // The fields of `Seen`, stored to in place.
+    let mut fresh = false;
+    let mut ended = false;
+    let mut parts = none;
+    let mut task_names = none;
+    let mut locks = none;
+    let mut last = no_one;
     loop {
         let line = c.line;
         match c.next(s) {
             Next::Over => {
-                if seen.ended {
+                if ended {
                     break;
                 }
                 return refused_file(Refusal::Misplaced(line));
@@ -105,52 +102,73 @@ pub fn read_file(s: &[u8], first: u64) -> PlanFile
                 return refused_file(Refusal::BadLine(line));
             }
             Next::Record(shape, next) => {
-                let n = seen.tasks.count;
+                let n = task_names.count;
+                let m = locks.count;
+                let seen = Seen {
+                    fresh,
+                    ended,
+                    parts,
+                    tasks: task_names,
+                    locks,
+                    last,
+                };
                 match questions::entry_at(s, line, seen, shape) {
                     Entry::Refused(r) => {
                         return refused_file(r);
                     }
                     Entry::Part(new_name, new_period) => {
-                        let ls = seen.locks;
-                        let done = closed_part(name, period, tasks, n, ls);
+                        let done = closed_part(name, period, tasks, n, locks);
                         all[open] = done;
-                        open = seen.parts.count;
+                        open = parts.count;
                         name = new_name;
                         period = new_period;
                         tasks = [no_one; 16];
-                        seen = plan_file::seen_part(seen, new_name);
+                        parts.span[open] = new_name;
+                        parts.count = open + 1;
+                        task_names = none;
+                        locks = none;
+                        last = no_one;
+                        fresh = true;
+                        ended = false;
                         c = next;
                     }
                     Entry::Task(task_name, separation, cost, deadline) => {
-                        let task = Task {
+                        last = Task {
                             separation,
                             cost,
                             deadline,
                             uses: [0; 8],
                         };
-                        tasks[n] = task;
-                        seen = plan_file::seen_task(seen, task_name, task);
+                        tasks[n] = last;
+                        task_names.span[n] = task_name;
+                        task_names.count = n + 1;
+                        fresh = false;
+                        ended = false;
                         c = next;
                     }
                     Entry::Lock(lock_name, j, held) => {
-                        let last = seen.last;
-                        let task = held_at(last, j, held);
-                        tasks[n - 1] = task;
-                        seen = plan_file::seen_lock(seen, lock_name, j, task);
+                        last.uses[j] = held;
+                        tasks[n - 1] = last;
+                        fresh = false;
+                        ended = false;
                         c = next;
+                        if j == m {
+                            locks.span[m] = lock_name;
+                            locks.count = m + 1;
+                        }
                     }
                     Entry::End => {
-                        let ls = seen.locks;
-                        let done = closed_part(name, period, tasks, n, ls);
+                        let done = closed_part(name, period, tasks, n, locks);
                         all[open] = done;
-                        seen = plan_file::seen_end(seen);
+                        fresh = false;
+                        ended = true;
                         c = next;
                     }
                 }
             }
         }
     }
-    let n = seen.parts.count;
+    let n = parts.count;
     let mut codes = [0u64; CEILING_PLACES];
     let mut k = 0;
     while k < n {

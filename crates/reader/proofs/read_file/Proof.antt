@@ -3,6 +3,7 @@
 -- Assumes nothing.
 use Prim.Native.Nat.{ℕ, _-_, _≤_, _<_}
 use mathlib.Core.Path.{_≡_, sym, subst, _∙_}
+use mathlib.Core.Bool.{Bool}
 use mathlib.Core.List.{List, []}
 use lib.ListN.{length, getD}
 use native.Mathlib.Omega.{arith}
@@ -12,39 +13,47 @@ use Rattle.least.proofs.Pad.{length-pad}
 use Rattle.refusal.specs.declared.Refusal.{Refusal}
 use Rattle.refusal.specs.declared.Refusal.the-variants.{FileTooLong, BadLine, Misplaced}
 use Rattle.refusal.specs.Questions.Answer.{refused}
+use Rattle.task_set.specs.declared.Task.{Task}
 use Rattle.records.specs.declared.Cursor.{Cursor}
 use Rattle.records.specs.declared.Shape.{Shape}
 use Rattle.records.specs.Code.Cursor.{RecordIs}
 use Rattle.plan_file.specs.Reading.{readFrom}
 use Rattle.plan_file.specs.Numbers.{numbered}
 use Rattle.plan_file.specs.Stretches.{noSpan}
-use Rattle.plan_file.specs.Code.Entries.{noTaskRead, noneSeen, entryOf}
+use Rattle.plan_file.specs.declared.Names.{Names}
+use Rattle.plan_file.specs.declared.Seen.{Seen}
+use Rattle.plan_file.specs.Code.Entries.{noTaskRead, noneSeen, withName, entryOf, seenPart, seenTask, seenEnd}
 use Rattle.sharing.proofs.Gathered.{Gathered, gathered-start, gathered-step}
 use Rattle.reader.specs.declared.PlanFile.{PlanFile}
-use Rattle.reader.specs.Code.Reader.{FineCounts, refusedFile, noPartRead, blankPart, ReadFromIs}
+use Rattle.reader.specs.Code.Reader.{FineCounts, refusedFile, heldAt, noPartRead, blankPart, ReadFromIs}
 use Rattle.reader.proofs.Reading.{Reading, reading-start, reading-too-long, refused-file, turn-shortens, reading-fine, reading-refused, reading-broken, reading-over, reading-counts}
-use Rattle.reader.proofs.Turns.{part-room, name-room, task-room, lock-room, reading-part, reading-task, reading-lock, reading-end}
+use Rattle.reader.proofs.Turns.{part-room, name-room, task-room, lock-room, reading-part, reading-task, reading-new-lock, reading-known-lock, reading-end}
 use Rattle.reader.proofs.Marking.{locksAt, Marking, marking-start, marking-step, reading-marked}
 use Rattle.reader.proofs.read_file.Statement.{statement}
 use Rattle.reader.proofs.read_file.Tie as tie
 
+-- what has been seen, out of the locals
+abbrev seenBy : Bool → Bool → Names → Names → Names → Task → Seen
+seenBy fresh ended parts task-names locks last = record { fresh = fresh; ended = ended; parts = parts; tasks = task-names; locks = locks; last = last }
+
 abbrev Inv-loop : tie.InvT-loop
-Inv-loop s first c₀ seen₀ no-one all₀ open₀ name₀ period₀ tasks₀ c seen all «open» name period tasks = Reading first s c seen «open» name period tasks all
+Inv-loop s first c₀ no-one none all₀ open₀ name₀ period₀ tasks₀ fresh₀ ended₀ parts₀ task-names₀ locks₀ last₀ c all «open» name period tasks fresh ended parts task-names locks last =
+    Reading first s c (seenBy fresh ended parts task-names locks last) «open» name period tasks all
 
 abbrev μ-loop : tie.MeasureT-loop
-μ-loop s first c₀ seen₀ no-one all₀ open₀ name₀ period₀ tasks₀ c seen all «open» name period tasks = length s - c .at
+μ-loop s first c₀ no-one none all₀ open₀ name₀ period₀ tasks₀ fresh₀ ended₀ parts₀ task-names₀ locks₀ last₀ c all «open» name period tasks fresh ended parts task-names locks last = length s - c .at
 
 abbrev Inv-loop2 : tie.InvT-loop2
-Inv-loop2 s first all «open» period n codes₀ k₀ codes k = (k ≤ n) × Gathered s (locksAt all) codes k
+Inv-loop2 s first all «open» period fresh ended n codes₀ k₀ codes k = (k ≤ n) × Gathered s (locksAt all) codes k
 
 abbrev μ-loop2 : tie.MeasureT-loop2
-μ-loop2 s first all «open» period n codes₀ k₀ codes k = n - k
+μ-loop2 s first all «open» period fresh ended n codes₀ k₀ codes k = n - k
 
 abbrev Inv-loop3 : tie.InvT-loop3
-Inv-loop3 s first all₀ «open» period n codes k₀ all k = (k ≤ n) × Marking codes n all₀ all k
+Inv-loop3 s first all₀ «open» period fresh ended n codes k₀ all k = (k ≤ n) × Marking codes n all₀ all k
 
 abbrev μ-loop3 : tie.MeasureT-loop3
-μ-loop3 s first all₀ «open» period n codes k₀ all k = n - k
+μ-loop3 s first all₀ «open» period fresh ended n codes k₀ all k = n - k
 
 -- a refusal that the file has
 refused-is : {n : ℕ} (s : List ℕ) (x : Refusal) (f : PlanFile) → f ≡ refusedFile x → refused x ≡ numbered (readFrom n s) → ReadFromIs n s f
@@ -53,6 +62,9 @@ refused-is s x f e h = record { value = rw e (refused-file s x ∙ h); few = rw 
 
 abbrev file : tie.At-loop Inv-loop μ-loop Inv-loop2 μ-loop2 Inv-loop3 μ-loop3 → List ℕ
 file l = l .before .before .before .before .before .before .before .args .s .now
+
+abbrev seen : tie.At-loop Inv-loop μ-loop Inv-loop2 μ-loop2 Inv-loop3 μ-loop3 → Seen
+seen l = seenBy (l .loop .fresh) (l .loop .ended) (l .loop .parts) (l .loop .task-names) (l .loop .locks) (l .loop .last)
 
 -- a record was entered: where the turn began, what stands there, and what the entry is
 abbrev at : tie.After-entry-at Inv-loop μ-loop Inv-loop2 μ-loop2 Inv-loop3 μ-loop3 → tie.At-loop Inv-loop μ-loop Inv-loop2 μ-loop2 Inv-loop3 μ-loop3
@@ -67,7 +79,7 @@ behind e = e .before .before .shape .given .0 .1 .0
 record-is : (e : tie.After-entry-at Inv-loop μ-loop Inv-loop2 μ-loop2 Inv-loop3 μ-loop3) → RecordIs (file (at e)) (at e .loop .c) (shape e) (behind e)
 record-is e = rw (e .before .before .shape .given .1) at (e .before .before .before .before .next .ensures)
 
-entry-is : (e : tie.After-entry-at Inv-loop μ-loop Inv-loop2 μ-loop2 Inv-loop3 μ-loop3) → entryOf (file (at e)) (at e .loop .c .line) (at e .loop .seen) (shape e) ≡ e .entry-at .result
+entry-is : (e : tie.After-entry-at Inv-loop μ-loop Inv-loop2 μ-loop2 Inv-loop3 μ-loop3) → entryOf (file (at e)) (at e .loop .c .line) (seen (at e)) (shape e) ≡ e .entry-at .result
 entry-is e = sym (e .entry-at .ensures)
 
 shorter : (e : tie.After-entry-at Inv-loop μ-loop Inv-loop2 μ-loop2 Inv-loop3 μ-loop3) → length (file (at e)) - behind e .at < length (file (at e)) - at e .loop .c .at
@@ -76,21 +88,40 @@ shorter e = turn-shortens (file (at e)) (at e .loop .c) (shape e) (behind e) (re
 part-at : (e : tie.After-entry-at Inv-loop μ-loop Inv-loop2 μ-loop2 Inv-loop3 μ-loop3) → at e .loop .«open» < 16
 part-at e =
     let l = at e in
-    part-room (file l) (l .loop .c) (l .loop .seen) (l .loop .«open») (l .loop .name) (l .loop .period) (l .loop .tasks) (l .loop .all) (l .loop .inv) (shape e) (behind e) (record-is e)
+    part-room (file l) (l .loop .c) (seen l) (l .loop .«open») (l .loop .name) (l .loop .period) (l .loop .tasks) (l .loop .all) (l .loop .inv) (shape e) (behind e) (record-is e)
+
+-- there is room for what the record enters
+room-of-part : (c : tie.After-closed-part Inv-loop μ-loop Inv-loop2 μ-loop2 Inv-loop3 μ-loop3) → at (c .before .before .before .before) .loop .parts .count < 16
+room-of-part c =
+    let e = c .before .before .before .before in
+    let l = at e in
+    name-room (file l) (l .loop .c) (seen l) (l .loop .«open») (l .loop .name) (l .loop .period) (l .loop .tasks) (l .loop .all) (l .loop .inv) (shape e) (behind e) (record-is e) (c .before .before .new-name .given .0 .0) (c .before .before .new-name .given .0 .1 .0) (entry-is e ∙ c .before .before .new-name .given .1)
+
+room-of-task : (c : tie.After-known-told4 Inv-loop μ-loop Inv-loop2 μ-loop2 Inv-loop3 μ-loop3) → at (c .before .before .before) .loop .task-names .count < 16
+room-of-task c =
+    let e = c .before .before .before in
+    let l = at e in
+    task-room (file l) (l .loop .c) (seen l) (l .loop .«open») (l .loop .name) (l .loop .period) (l .loop .tasks) (l .loop .all) (l .loop .inv) (shape e) (behind e) (record-is e) (c .before .task-name .given .0 .0) (c .before .task-name .given .0 .1 .0) (c .before .task-name .given .0 .1 .1 .0) (c .before .task-name .given .0 .1 .1 .1 .0) (entry-is e ∙ c .before .task-name .given .1)
+
+room-of-lock : (c : tie.After-known-told5 Inv-loop μ-loop Inv-loop2 μ-loop2 Inv-loop3 μ-loop3) → (c .before .lock-name .given .0 .1 .0 < 8) × (1 ≤ at (c .before .before .before) .loop .task-names .count) × (at (c .before .before .before) .loop .task-names .count ≤ 16)
+room-of-lock c =
+    let e = c .before .before .before in
+    let l = at e in
+    lock-room (file l) (l .loop .c) (seen l) (l .loop .«open») (l .loop .name) (l .loop .period) (l .loop .tasks) (l .loop .all) (l .loop .inv) (shape e) (behind e) (record-is e) (c .before .lock-name .given .0 .0) (c .before .lock-name .given .0 .1 .0) (c .before .lock-name .given .0 .1 .1 .0) (entry-is e ∙ c .before .lock-name .given .1)
 
 -- the file is over: where its last turn began
 abbrev over : tie.Then2 Inv-loop μ-loop Inv-loop2 μ-loop2 Inv-loop3 μ-loop3 → tie.At-loop Inv-loop μ-loop Inv-loop2 μ-loop2 Inv-loop3 μ-loop3
 over t = t .before .before .before .before
 
-few : (t : tie.Then2 Inv-loop μ-loop Inv-loop2 μ-loop2 Inv-loop3 μ-loop3) → over t .loop .seen .parts .count ≤ 16
+few : (t : tie.Then2 Inv-loop μ-loop Inv-loop2 μ-loop2 Inv-loop3 μ-loop3) → over t .loop .parts .count ≤ 16
 few t =
     let l = over t in
-    reading-fine (file l) (l .loop .c) (l .loop .seen) (l .loop .«open») (l .loop .name) (l .loop .period) (l .loop .tasks) (l .loop .all) (l .loop .inv) .parts .few
+    reading-fine (file l) (l .loop .c) (seen l) (l .loop .«open») (l .loop .name) (l .loop .period) (l .loop .tasks) (l .loop .all) (l .loop .inv) .parts .few
 
-counts : (t : tie.Then2 Inv-loop μ-loop Inv-loop2 μ-loop2 Inv-loop3 μ-loop3) (k : ℕ) → k < over t .loop .seen .parts .count → FineCounts (getD (over t .loop .all) k blankPart)
+counts : (t : tie.Then2 Inv-loop μ-loop Inv-loop2 μ-loop2 Inv-loop3 μ-loop3) (k : ℕ) → k < over t .loop .parts .count → FineCounts (getD (over t .loop .all) k blankPart)
 counts t =
     let l = over t in
-    reading-counts (file l) (l .loop .c) (l .loop .seen) (l .loop .«open») (l .loop .name) (l .loop .period) (l .loop .tasks) (l .loop .all) (l .loop .inv)
+    reading-counts (file l) (l .loop .c) (seen l) (l .loop .«open») (l .loop .name) (l .loop .period) (l .loop .tasks) (l .loop .all) (l .loop .inv)
 
 refused-file-requires : tie.Need-refused-file-requires Inv-loop μ-loop Inv-loop2 μ-loop2 Inv-loop3 μ-loop3
 refused-file-requires c κs = search needs
@@ -103,11 +134,11 @@ returns c =
 new-requires : tie.Need-new-requires Inv-loop μ-loop Inv-loop2 μ-loop2 Inv-loop3 μ-loop3
 new-requires c κs = search needs
 
-none-seen-requires : tie.Need-none-seen-requires Inv-loop μ-loop Inv-loop2 μ-loop2 Inv-loop3 μ-loop3
-none-seen-requires c κs = search needs
-
 no-task-requires : tie.Need-no-task-requires Inv-loop μ-loop Inv-loop2 μ-loop2 Inv-loop3 μ-loop3
 no-task-requires c κs = search needs
+
+no-names-requires : tie.Need-no-names-requires Inv-loop μ-loop Inv-loop2 μ-loop2 Inv-loop3 μ-loop3
+no-names-requires c κs = search needs
 
 no-part-requires : tie.Need-no-part-requires Inv-loop μ-loop Inv-loop2 μ-loop2 Inv-loop3 μ-loop3
 no-part-requires c κs = search needs
@@ -118,7 +149,7 @@ loop-holds c =
     let a = c .before .before .before .before .before .before .args in
     let n = c .before .before .before .new in
     let start : _≡_ {A = Cursor} (record { at = 0; line = a .first }) (n .result) = λ i. record { at = sym (n .ensures .0) i; line = sym (n .ensures .1) i } in
-    rw (c .no-part .ensures, c .before .no-task .ensures, c .before .before .none-seen .ensures)
+    rw (c .no-part .ensures, c .before .no-names .ensures, c .before .before .no-task .ensures)
     (subst (λ (k : Cursor). Reading (a .first) (a .s .now) k noneSeen 0 noSpan 0 (pad 16 noTaskRead []) (pad 16 noPartRead [])) start (reading-start (a .first) (a .s .now) (omega arith)))
 
 next-requires : tie.Need-next-requires Inv-loop μ-loop Inv-loop2 μ-loop2 Inv-loop3 μ-loop3
@@ -134,7 +165,7 @@ returns-2 : tie.Need-returns-2 Inv-loop μ-loop Inv-loop2 μ-loop2 Inv-loop3 μ-
 returns-2 c =
     let l = c .before .before .before .before .before in
     refused-is (file l) (Misplaced (l .loop .c .line)) (c .refused-file2 .result) (c .refused-file2 .ensures)
-    (reading-over (file l) (l .loop .c) (l .loop .seen) (l .loop .«open») (l .loop .name) (l .loop .period) (l .loop .tasks) (l .loop .all) (l .loop .inv) (rw (c .before .before .enum-told .given .1) at (c .before .before .before .before .next .ensures)) (c .before .if2 .left))
+    (reading-over (file l) (l .loop .c) (seen l) (l .loop .«open») (l .loop .name) (l .loop .period) (l .loop .tasks) (l .loop .all) (l .loop .inv) (rw (c .before .before .enum-told .given .1) at (c .before .before .before .before .next .ensures)) (c .before .if2 .left))
 
 enum-told-2 : tie.Need-enum-told-2 Inv-loop μ-loop Inv-loop2 μ-loop2 Inv-loop3 μ-loop3
 enum-told-2 c = search needs
@@ -146,7 +177,7 @@ returns-3 : tie.Need-returns-3 Inv-loop μ-loop Inv-loop2 μ-loop2 Inv-loop3 μ-
 returns-3 c =
     let l = c .before .before .before .before in
     refused-is (file l) (BadLine (l .loop .c .line)) (c .refused-file3 .result) (c .refused-file3 .ensures)
-    (reading-broken (file l) (l .loop .c) (l .loop .seen) (l .loop .«open») (l .loop .name) (l .loop .period) (l .loop .tasks) (l .loop .all) (l .loop .inv) (rw (c .before .enum-told2 .given .1) at (c .before .before .before .next .ensures)))
+    (reading-broken (file l) (l .loop .c) (seen l) (l .loop .«open») (l .loop .name) (l .loop .period) (l .loop .tasks) (l .loop .all) (l .loop .inv) (rw (c .before .enum-told2 .given .1) at (c .before .before .before .next .ensures)))
 
 enum-known-shape : tie.Need-enum-known-shape Inv-loop μ-loop Inv-loop2 μ-loop2 Inv-loop3 μ-loop3
 enum-known-shape c = search needs
@@ -165,7 +196,7 @@ returns-4 c =
     let e = c .before .before .before .before in
     let l = at e in
     refused-is (file l) (c .before .before .r .given .0 .0) (c .refused-file4 .result) (c .refused-file4 .ensures)
-    (reading-refused (file l) (l .loop .c) (l .loop .seen) (l .loop .«open») (l .loop .name) (l .loop .period) (l .loop .tasks) (l .loop .all) (l .loop .inv) (shape e) (behind e) (record-is e) (c .before .before .r .given .0 .0) (entry-is e ∙ c .before .before .r .given .1))
+    (reading-refused (file l) (l .loop .c) (seen l) (l .loop .«open») (l .loop .name) (l .loop .period) (l .loop .tasks) (l .loop .all) (l .loop .inv) (shape e) (behind e) (record-is e) (c .before .before .r .given .0 .0) (entry-is e ∙ c .before .before .r .given .1))
 
 enum-known-new-name : tie.Need-enum-known-new-name Inv-loop μ-loop Inv-loop2 μ-loop2 Inv-loop3 μ-loop3
 enum-known-new-name c = search needs
@@ -174,100 +205,105 @@ closed-part-requires : tie.Need-closed-part-requires Inv-loop μ-loop Inv-loop2 
 closed-part-requires c κs = search needs
 
 mul-all : tie.Need-mul-all Inv-loop μ-loop Inv-loop2 μ-loop2 Inv-loop3 μ-loop3
-mul-all c = omega (arith, part-at (c .before .before .before .before .before))
+mul-all c = omega (arith, part-at (c .before .before .before .before))
 
 array-set-from-all : tie.Need-array-set-from-all Inv-loop μ-loop Inv-loop2 μ-loop2 Inv-loop3 μ-loop3
-array-set-from-all c = part-at (c .before .before .before .before .before)
+array-set-from-all c = part-at (c .before .before .before .before)
 
-seen-part-requires : tie.Need-seen-part-requires Inv-loop μ-loop Inv-loop2 μ-loop2 Inv-loop3 μ-loop3
-seen-part-requires c κs =
-    let e = c .before .before .before .before .before in
-    let l = at e in
-    name-room (file l) (l .loop .c) (l .loop .seen) (l .loop .«open») (l .loop .name) (l .loop .period) (l .loop .tasks) (l .loop .all) (l .loop .inv) (shape e) (behind e) (record-is e) (c .before .before .before .new-name .given .0 .0) (c .before .before .before .new-name .given .0 .1 .0) (entry-is e ∙ c .before .before .before .new-name .given .1)
+mul-new-name : tie.Need-mul-new-name Inv-loop μ-loop Inv-loop2 μ-loop2 Inv-loop3 μ-loop3
+mul-new-name c = omega (arith, room-of-part c)
+
+element-set-from-new-name : tie.Need-element-set-from-new-name Inv-loop μ-loop Inv-loop2 μ-loop2 Inv-loop3 μ-loop3
+element-set-from-new-name c = room-of-part c
+
+add-parts : tie.Need-add-parts Inv-loop μ-loop Inv-loop2 μ-loop2 Inv-loop3 μ-loop3
+add-parts c = omega (arith, room-of-part c)
 
 loop-less : tie.Need-loop-less Inv-loop μ-loop Inv-loop2 μ-loop2 Inv-loop3 μ-loop3
-loop-less c = shorter (c .before .before .before .before .before .before)
+loop-less c = shorter (c .before .before .before .before)
 
 loop-again : tie.Need-loop-again Inv-loop μ-loop Inv-loop2 μ-loop2 Inv-loop3 μ-loop3
-unfolding pad
+unfolding pad seenPart withName
 loop-again c =
-    let e = c .before .before .before .before .before .before in
+    let e = c .before .before .before .before in
     let l = at e in
-    let law = reading-part (file l) (l .loop .c) (l .loop .seen) (l .loop .«open») (l .loop .name) (l .loop .period) (l .loop .tasks) (l .loop .all) (l .loop .inv) (shape e) (behind e) (record-is e) (c .before .before .before .before .new-name .given .0 .0) (c .before .before .before .before .new-name .given .0 .1 .0) (entry-is e ∙ c .before .before .before .before .new-name .given .1) in
-    rw (c .seen-part .ensures, c .before .closed-part .ensures, c .before .before .before .before .before .before .before .before .before .before .before .before .before .no-task .ensures) law
+    let law = reading-part (file l) (l .loop .c) (seen l) (l .loop .«open») (l .loop .name) (l .loop .period) (l .loop .tasks) (l .loop .all) (l .loop .inv) (shape e) (behind e) (record-is e) (c .before .before .new-name .given .0 .0) (c .before .before .new-name .given .0 .1 .0) (entry-is e ∙ c .before .before .new-name .given .1) in
+    rw (c .closed-part .ensures, l .before .before .no-names .ensures, l .before .before .before .no-task .ensures) law
 
 enum-known-task-name : tie.Need-enum-known-task-name Inv-loop μ-loop Inv-loop2 μ-loop2 Inv-loop3 μ-loop3
 enum-known-task-name c = search needs
 
 mul-tasks : tie.Need-mul-tasks Inv-loop μ-loop Inv-loop2 μ-loop2 Inv-loop3 μ-loop3
-mul-tasks c =
-    let e = c .before .before .before in
-    let l = at e in
-    omega (arith, task-room (file l) (l .loop .c) (l .loop .seen) (l .loop .«open») (l .loop .name) (l .loop .period) (l .loop .tasks) (l .loop .all) (l .loop .inv) (shape e) (behind e) (record-is e) (c .before .task-name .given .0 .0) (c .before .task-name .given .0 .1 .0) (c .before .task-name .given .0 .1 .1 .0) (c .before .task-name .given .0 .1 .1 .1 .0) (entry-is e ∙ c .before .task-name .given .1))
+mul-tasks c = omega (arith, room-of-task c)
 
 array-set-from-tasks : tie.Need-array-set-from-tasks Inv-loop μ-loop Inv-loop2 μ-loop2 Inv-loop3 μ-loop3
-array-set-from-tasks c =
-    let e = c .before .before .before in
-    let l = at e in
-    task-room (file l) (l .loop .c) (l .loop .seen) (l .loop .«open») (l .loop .name) (l .loop .period) (l .loop .tasks) (l .loop .all) (l .loop .inv) (shape e) (behind e) (record-is e) (c .before .task-name .given .0 .0) (c .before .task-name .given .0 .1 .0) (c .before .task-name .given .0 .1 .1 .0) (c .before .task-name .given .0 .1 .1 .1 .0) (entry-is e ∙ c .before .task-name .given .1)
+array-set-from-tasks c = room-of-task c
 
-seen-task-requires : tie.Need-seen-task-requires Inv-loop μ-loop Inv-loop2 μ-loop2 Inv-loop3 μ-loop3
-seen-task-requires c κs =
-    let e = c .before .before .before in
-    let l = at e in
-    task-room (file l) (l .loop .c) (l .loop .seen) (l .loop .«open») (l .loop .name) (l .loop .period) (l .loop .tasks) (l .loop .all) (l .loop .inv) (shape e) (behind e) (record-is e) (c .before .task-name .given .0 .0) (c .before .task-name .given .0 .1 .0) (c .before .task-name .given .0 .1 .1 .0) (c .before .task-name .given .0 .1 .1 .1 .0) (entry-is e ∙ c .before .task-name .given .1)
+mul-task-name : tie.Need-mul-task-name Inv-loop μ-loop Inv-loop2 μ-loop2 Inv-loop3 μ-loop3
+mul-task-name c = omega (arith, room-of-task c)
+
+element-set-from-task-name : tie.Need-element-set-from-task-name Inv-loop μ-loop Inv-loop2 μ-loop2 Inv-loop3 μ-loop3
+element-set-from-task-name c = room-of-task c
+
+add-task-names : tie.Need-add-task-names Inv-loop μ-loop Inv-loop2 μ-loop2 Inv-loop3 μ-loop3
+add-task-names c = omega (arith, room-of-task c)
 
 loop-less-2 : tie.Need-loop-less-2 Inv-loop μ-loop Inv-loop2 μ-loop2 Inv-loop3 μ-loop3
-loop-less-2 c = shorter (c .before .before .before .before)
+loop-less-2 c = shorter (c .before .before .before)
 
 loop-again-2 : tie.Need-loop-again-2 Inv-loop μ-loop Inv-loop2 μ-loop2 Inv-loop3 μ-loop3
-unfolding pad
+unfolding pad seenTask withName
 loop-again-2 c =
-    let e = c .before .before .before .before in
+    let e = c .before .before .before in
     let l = at e in
-    rw (c .seen-task .ensures) (reading-task (file l) (l .loop .c) (l .loop .seen) (l .loop .«open») (l .loop .name) (l .loop .period) (l .loop .tasks) (l .loop .all) (l .loop .inv) (shape e) (behind e) (record-is e) (c .before .before .task-name .given .0 .0) (c .before .before .task-name .given .0 .1 .0) (c .before .before .task-name .given .0 .1 .1 .0) (c .before .before .task-name .given .0 .1 .1 .1 .0) (entry-is e ∙ c .before .before .task-name .given .1))
+    reading-task (file l) (l .loop .c) (seen l) (l .loop .«open») (l .loop .name) (l .loop .period) (l .loop .tasks) (l .loop .all) (l .loop .inv) (shape e) (behind e) (record-is e) (c .before .task-name .given .0 .0) (c .before .task-name .given .0 .1 .0) (c .before .task-name .given .0 .1 .1 .0) (c .before .task-name .given .0 .1 .1 .1 .0) (entry-is e ∙ c .before .task-name .given .1)
 
 enum-known-lock-name : tie.Need-enum-known-lock-name Inv-loop μ-loop Inv-loop2 μ-loop2 Inv-loop3 μ-loop3
 enum-known-lock-name c = search needs
 
-held-at-requires : tie.Need-held-at-requires Inv-loop μ-loop Inv-loop2 μ-loop2 Inv-loop3 μ-loop3
-held-at-requires c κs =
-    let e = c .before .before .before .before in
-    let l = at e in
-    lock-room (file l) (l .loop .c) (l .loop .seen) (l .loop .«open») (l .loop .name) (l .loop .period) (l .loop .tasks) (l .loop .all) (l .loop .inv) (shape e) (behind e) (record-is e) (c .before .before .lock-name .given .0 .0) (c .before .before .lock-name .given .0 .1 .0) (c .before .before .lock-name .given .0 .1 .1 .0) (entry-is e ∙ c .before .before .lock-name .given .1) .0
+mul-last : tie.Need-mul-last Inv-loop μ-loop Inv-loop2 μ-loop2 Inv-loop3 μ-loop3
+mul-last c = omega (arith, room-of-lock c)
+
+element-write-last : tie.Need-element-write-last Inv-loop μ-loop Inv-loop2 μ-loop2 Inv-loop3 μ-loop3
+element-write-last c = room-of-lock c .0
 
 sub-tasks : tie.Need-sub-tasks Inv-loop μ-loop Inv-loop2 μ-loop2 Inv-loop3 μ-loop3
-sub-tasks c =
-    let e = c .before .before .before .before .before in
-    let l = at e in
-    omega (arith, lock-room (file l) (l .loop .c) (l .loop .seen) (l .loop .«open») (l .loop .name) (l .loop .period) (l .loop .tasks) (l .loop .all) (l .loop .inv) (shape e) (behind e) (record-is e) (c .before .before .before .lock-name .given .0 .0) (c .before .before .before .lock-name .given .0 .1 .0) (c .before .before .before .lock-name .given .0 .1 .1 .0) (entry-is e ∙ c .before .before .before .lock-name .given .1))
+sub-tasks c = omega (arith, room-of-lock c)
 
 mul-tasks-2 : tie.Need-mul-tasks-2 Inv-loop μ-loop Inv-loop2 μ-loop2 Inv-loop3 μ-loop3
-mul-tasks-2 c =
-    let e = c .before .before .before .before .before in
-    let l = at e in
-    omega (arith, lock-room (file l) (l .loop .c) (l .loop .seen) (l .loop .«open») (l .loop .name) (l .loop .period) (l .loop .tasks) (l .loop .all) (l .loop .inv) (shape e) (behind e) (record-is e) (c .before .before .before .lock-name .given .0 .0) (c .before .before .before .lock-name .given .0 .1 .0) (c .before .before .before .lock-name .given .0 .1 .1 .0) (entry-is e ∙ c .before .before .before .lock-name .given .1))
+mul-tasks-2 c = omega (arith, room-of-lock c)
 
 array-set-from-tasks-2 : tie.Need-array-set-from-tasks-2 Inv-loop μ-loop Inv-loop2 μ-loop2 Inv-loop3 μ-loop3
-array-set-from-tasks-2 c =
-    let e = c .before .before .before .before .before in
-    let l = at e in
-    omega (arith, lock-room (file l) (l .loop .c) (l .loop .seen) (l .loop .«open») (l .loop .name) (l .loop .period) (l .loop .tasks) (l .loop .all) (l .loop .inv) (shape e) (behind e) (record-is e) (c .before .before .before .lock-name .given .0 .0) (c .before .before .before .lock-name .given .0 .1 .0) (c .before .before .before .lock-name .given .0 .1 .1 .0) (entry-is e ∙ c .before .before .before .lock-name .given .1))
+array-set-from-tasks-2 c = omega (arith, room-of-lock c)
 
-seen-lock-requires : tie.Need-seen-lock-requires Inv-loop μ-loop Inv-loop2 μ-loop2 Inv-loop3 μ-loop3
-seen-lock-requires c κs =
-    let e = c .before .before .before .before .before in
-    let l = at e in
-    omega (arith, lock-room (file l) (l .loop .c) (l .loop .seen) (l .loop .«open») (l .loop .name) (l .loop .period) (l .loop .tasks) (l .loop .all) (l .loop .inv) (shape e) (behind e) (record-is e) (c .before .before .before .lock-name .given .0 .0) (c .before .before .before .lock-name .given .0 .1 .0) (c .before .before .before .lock-name .given .0 .1 .1 .0) (entry-is e ∙ c .before .before .before .lock-name .given .1))
+mul-lock-name : tie.Need-mul-lock-name Inv-loop μ-loop Inv-loop2 μ-loop2 Inv-loop3 μ-loop3
+mul-lock-name c = omega (arith, room-of-lock (c .before))
+
+element-set-from-lock-name : tie.Need-element-set-from-lock-name Inv-loop μ-loop Inv-loop2 μ-loop2 Inv-loop3 μ-loop3
+element-set-from-lock-name c = omega (arith, room-of-lock (c .before))
+
+add-locks : tie.Need-add-locks Inv-loop μ-loop Inv-loop2 μ-loop2 Inv-loop3 μ-loop3
+add-locks c = omega (arith, room-of-lock (c .before))
 
 loop-less-3 : tie.Need-loop-less-3 Inv-loop μ-loop Inv-loop2 μ-loop2 Inv-loop3 μ-loop3
-loop-less-3 c = shorter (c .before .before .before .before .before .before)
+loop-less-3 c = shorter (c .before .before .before .before)
 
 loop-again-3 : tie.Need-loop-again-3 Inv-loop μ-loop Inv-loop2 μ-loop2 Inv-loop3 μ-loop3
+unfolding heldAt withName
 loop-again-3 c =
-    let e = c .before .before .before .before .before .before in
+    let e = c .before .before .before .before in
     let l = at e in
-    rw (c .seen-lock .ensures, c .before .held-at .ensures) (reading-lock (file l) (l .loop .c) (l .loop .seen) (l .loop .«open») (l .loop .name) (l .loop .period) (l .loop .tasks) (l .loop .all) (l .loop .inv) (shape e) (behind e) (record-is e) (c .before .before .before .before .lock-name .given .0 .0) (c .before .before .before .before .lock-name .given .0 .1 .0) (c .before .before .before .before .lock-name .given .0 .1 .1 .0) (entry-is e ∙ c .before .before .before .before .lock-name .given .1))
+    reading-new-lock (file l) (l .loop .c) (seen l) (l .loop .«open») (l .loop .name) (l .loop .period) (l .loop .tasks) (l .loop .all) (l .loop .inv) (shape e) (behind e) (record-is e) (c .before .before .lock-name .given .0 .0) (c .before .before .lock-name .given .0 .1 .0) (c .before .before .lock-name .given .0 .1 .1 .0) (entry-is e ∙ c .before .before .lock-name .given .1) (c .if3 .taken)
+
+loop-less-4 : tie.Need-loop-less-4 Inv-loop μ-loop Inv-loop2 μ-loop2 Inv-loop3 μ-loop3
+loop-less-4 c = shorter (c .before .before .before .before)
+
+loop-again-4 : tie.Need-loop-again-4 Inv-loop μ-loop Inv-loop2 μ-loop2 Inv-loop3 μ-loop3
+unfolding heldAt
+loop-again-4 c =
+    let e = c .before .before .before .before in
+    let l = at e in
+    reading-known-lock (file l) (l .loop .c) (seen l) (l .loop .«open») (l .loop .name) (l .loop .period) (l .loop .tasks) (l .loop .all) (l .loop .inv) (shape e) (behind e) (record-is e) (c .before .before .lock-name .given .0 .0) (c .before .before .lock-name .given .0 .1 .0) (c .before .before .lock-name .given .0 .1 .1 .0) (entry-is e ∙ c .before .before .lock-name .given .1) (c .if3 .left)
 
 enum-told-3 : tie.Need-enum-told-3 Inv-loop μ-loop Inv-loop2 μ-loop2 Inv-loop3 μ-loop3
 enum-told-3 c = search needs
@@ -276,22 +312,20 @@ closed-part-requires-2 : tie.Need-closed-part-requires-2 Inv-loop μ-loop Inv-lo
 closed-part-requires-2 c κs = search needs
 
 mul-all-2 : tie.Need-mul-all-2 Inv-loop μ-loop Inv-loop2 μ-loop2 Inv-loop3 μ-loop3
-mul-all-2 c = omega (arith, part-at (c .before .before .before .before))
+mul-all-2 c = omega (arith, part-at (c .before .before .before))
 
 array-set-from-all-2 : tie.Need-array-set-from-all-2 Inv-loop μ-loop Inv-loop2 μ-loop2 Inv-loop3 μ-loop3
-array-set-from-all-2 c = part-at (c .before .before .before .before)
+array-set-from-all-2 c = part-at (c .before .before .before)
 
-seen-end-requires : tie.Need-seen-end-requires Inv-loop μ-loop Inv-loop2 μ-loop2 Inv-loop3 μ-loop3
-seen-end-requires c κs = search needs
+loop-less-5 : tie.Need-loop-less-5 Inv-loop μ-loop Inv-loop2 μ-loop2 Inv-loop3 μ-loop3
+loop-less-5 c = shorter (c .before .before .before)
 
-loop-less-4 : tie.Need-loop-less-4 Inv-loop μ-loop Inv-loop2 μ-loop2 Inv-loop3 μ-loop3
-loop-less-4 c = shorter (c .before .before .before .before .before)
-
-loop-again-4 : tie.Need-loop-again-4 Inv-loop μ-loop Inv-loop2 μ-loop2 Inv-loop3 μ-loop3
-loop-again-4 c =
-    let e = c .before .before .before .before .before in
+loop-again-5 : tie.Need-loop-again-5 Inv-loop μ-loop Inv-loop2 μ-loop2 Inv-loop3 μ-loop3
+unfolding seenEnd
+loop-again-5 c =
+    let e = c .before .before .before in
     let l = at e in
-    rw (c .seen-end .ensures, c .before .closed-part2 .ensures) (reading-end (file l) (l .loop .c) (l .loop .seen) (l .loop .«open») (l .loop .name) (l .loop .period) (l .loop .tasks) (l .loop .all) (l .loop .inv) (shape e) (behind e) (record-is e) (entry-is e ∙ c .before .before .before .enum-told3 .given .1))
+    rw (c .closed-part2 .ensures) (reading-end (file l) (l .loop .c) (seen l) (l .loop .«open») (l .loop .name) (l .loop .period) (l .loop .tasks) (l .loop .all) (l .loop .inv) (shape e) (behind e) (record-is e) (entry-is e ∙ c .before .enum-told3 .given .1))
 
 loop2-holds : tie.Need-loop2-holds Inv-loop μ-loop Inv-loop2 μ-loop2 Inv-loop3 μ-loop3
 loop2-holds c = (omega arith, gathered-start _ _)
@@ -359,10 +393,10 @@ returns-5 c =
     let m = c .before .loop3 in
     let t = c .before .before .before .before in
     let l = over t in
-    let n = l .loop .seen .parts .count in
+    let n = l .loop .parts .count in
     let e : g .k ≡ n = omega arith in
     let d : m .k ≡ n = omega arith in
-    reading-marked (file l) (l .loop .c) (l .loop .seen) (l .loop .«open») (l .loop .name) (l .loop .period) (l .loop .tasks) (l .loop .all) (l .loop .inv)
+    reading-marked (file l) (l .loop .c) (seen l) (l .loop .«open») (l .loop .name) (l .loop .period) (l .loop .tasks) (l .loop .all) (l .loop .inv)
     (rw (t .before .enum-told .given .1) at (t .before .before .before .next .ensures)) (t .if2 .taken)
     (g .codes) (m .all) (subst (Gathered (file l) (locksAt (l .loop .all)) (g .codes)) e (g .inv .1)) (subst (Marking (g .codes) n (l .loop .all) (m .all)) d (m .inv .1))
 
@@ -379,8 +413,8 @@ read-file-spec =
     refused-file-requires
     returns
     new-requires
-    none-seen-requires
     no-task-requires
+    no-names-requires
     no-part-requires
     loop-holds
     next-requires
@@ -399,30 +433,38 @@ read-file-spec =
     closed-part-requires
     mul-all
     array-set-from-all
-    seen-part-requires
+    mul-new-name
+    element-set-from-new-name
+    add-parts
     loop-less
     loop-again
     enum-known-task-name
     mul-tasks
     array-set-from-tasks
-    seen-task-requires
+    mul-task-name
+    element-set-from-task-name
+    add-task-names
     loop-less-2
     loop-again-2
     enum-known-lock-name
-    held-at-requires
+    mul-last
+    element-write-last
     sub-tasks
     mul-tasks-2
     array-set-from-tasks-2
-    seen-lock-requires
+    mul-lock-name
+    element-set-from-lock-name
+    add-locks
     loop-less-3
     loop-again-3
+    loop-less-4
+    loop-again-4
     enum-told-3
     closed-part-requires-2
     mul-all-2
     array-set-from-all-2
-    seen-end-requires
-    loop-less-4
-    loop-again-4
+    loop-less-5
+    loop-again-5
     loop2-holds
     mul-p
     array-copy-out-p
