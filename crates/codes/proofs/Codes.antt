@@ -10,8 +10,8 @@ use lib.Dec.{leb}
 use lib.ListN.{length, drop, getD, length-drop}
 use lib.Seq.{drop-cons}
 use Rattle.least.specs.Lists.{every}
-use Rattle.least.proofs.Lists.{every-cons, every-member, every-all}
-use Rattle.least.proofs.Members.{drop-member}
+use Rattle.least.proofs.Lists.{every-cons, every-pass, every-member}
+use Rattle.least.proofs.Members.{getD-member}
 use Rattle.text.specs.Decimal.{isDigit}
 use Rattle.fields.specs.Fields.{isNameByte, isName}
 use Rattle.fields.proofs.Fields.{name-iff}
@@ -67,19 +67,19 @@ code-below (suc k) (x ∷ xs) h l =
     let p = every-cons isNameByte x xs h in
     omega (arith, code-cons x xs, byte-most x (p .0), code-below k xs (p .1) (omega arith))
 
-every-drop : (s : List ℕ) (i : ℕ) → every isNameByte s ≡ true → every isNameByte (drop i s) ≡ true
-every-drop s i h = every-all isNameByte (drop i s) (λ x m. every-member isNameByte s h (drop-member i s m))
-
 -- one byte more at the front
 module _ (s : List ℕ) (i : ℕ) (from : 1 ≤ i) (to : i ≤ length s) where
-  pub code-more : codeOf (drop i s) * 256 + getD s (i - 1) 0 ≡ codeOf (drop (i - 1) s)
-  code-more =
-      let e : suc (i - 1) ≡ i = omega arith in
-      let front : drop (i - 1) s ≡ getD s (i - 1) 0 ∷ drop i s = rw e at (drop-cons s (i - 1) 0 (omega arith)) in
-      rw (front, code-cons) (omega arith)
+  front : drop (i - 1) s ≡ getD s (i - 1) 0 ∷ drop i s
+  front = let e : suc (i - 1) ≡ i = omega arith in rw e at (drop-cons s (i - 1) 0 (omega arith))
 
-  pub code-more-fits : isName s ≡ true → codeOf (drop i s) * 256 + getD s (i - 1) 0 < 2 ^ 64
-  code-more-fits e = let n = name-iff s .0 e in rw code-more (code-below 8 (drop (i - 1) s) (every-drop s (i - 1) (n .bytes)) (rw length-drop (omega (arith, n .to))))
+  pub code-more : codeOf (drop i s) * 256 + getD s (i - 1) 0 ≡ codeOf (drop (i - 1) s)
+  code-more = rw (front, code-cons) (omega arith)
+
+  pub bytes-more : isNameByte (getD s (i - 1) 0) ≡ true → every isNameByte (drop i s) ≡ true → every isNameByte (drop (i - 1) s) ≡ true
+  bytes-more e h = rw front (every-pass isNameByte _ _ e ∙ h)
+
+  pub code-more-fits : length s ≤ 8 → every isNameByte (drop (i - 1) s) ≡ true → codeOf (drop i s) * 256 + getD s (i - 1) 0 < 2 ^ 64
+  code-more-fits l h = rw code-more (code-below 8 (drop (i - 1) s) h (rw length-drop (omega arith)))
 
 -- of names
 module _ (bs : List ℕ) (e : isName bs ≡ true) where
@@ -96,6 +96,39 @@ module _ (bs : List ℕ) (e : isName bs ≡ true) where
       go : (xs : List ℕ) → 1 ≤ length xs → every isNameByte xs ≡ true → 1 ≤ codeOf xs
       go [] h k = absurd (omega arith)
       go (x ∷ xs) h k = omega (arith, code-cons x xs, byte-least x (every-cons isNameByte x xs k .0))
+
+-- the number where the bytes are no name, and where they are one
+pub code-long : (s : List ℕ) → 8 < length s → codeIf s ≡ 0
+unfolding codeIf isName
+code-long s h = simp (lt-leb (length s) 8 h, and-false)
+
+pub code-stop : (s : List ℕ) (i : ℕ) → i < length s → isNameByte (getD s i 0) ≡ false → codeIf s ≡ 0
+unfolding codeIf
+code-stop s i h f = go (isName s) refl
+  where
+    go : (b : Bool) → isName s ≡ b → codeIf s ≡ 0
+    go true e = absurd (false≢true (sym f ∙ every-member isNameByte s (name-iff s .0 e .bytes) (getD-member s i 0 h)))
+    go false e = simp e
+
+pub code-all : (s : List ℕ) → length s ≤ 8 → every isNameByte s ≡ true → codeOf s ≡ codeIf s
+unfolding codeOf codeIf isName
+code-all [] l h = refl
+code-all (x ∷ xs) l h = sym (code-name (x ∷ xs) (name-iff (x ∷ xs) .1 (record { from = omega arith; to = l; bytes = h })))
+
+pub code-unnamed : (s : List ℕ) → codeIf s ≡ 0 → isName s ≡ false
+code-unnamed s z = go (isName s) refl
+  where
+    go : (b : Bool) → isName s ≡ b → isName s ≡ false
+    go true e = absurd (omega (arith, z, code-positive s e))
+    go false e = e
+
+pub code-named : (s : List ℕ) → (codeIf s ≡ 0 → ⊥) → isName s ≡ true
+unfolding codeIf
+code-named s z = go (isName s) refl
+  where
+    go : (b : Bool) → isName s ≡ b → isName s ≡ true
+    go true e = e
+    go false e = absurd (z (simp e))
 
 pub code-injective : (a b : List ℕ) → isName a ≡ true → isName b ≡ true → codeIf a ≡ codeIf b → a ≡ b
 code-injective a b h k e =

@@ -1,19 +1,42 @@
 // Names as numbers.
+use refusal::NAME_LIMIT;
 ghost use mathlib.Core.Path.{_≡_};
-ghost use Rattle.codes.specs.Code.Codes.{codeIf};
+ghost use Prim.Native.Nat.{_≤_};
+ghost use lib.ListN.{length, take};
+ghost use Rattle.codes.specs.Code.Codes.{codeIf, placeOf};
 
 // The bytes of a name as one number, the first the lowest; 0 where they are no name.
 pub fn name_code(f: &[u8]) -> u64
     ensures { λ r. ⌜ r ≡ codeIf (now (f .entry)) ⌝ }
 {
-    if !fields::is_name(f) {
+    if NAME_LIMIT < f.len() {
         return 0;
     }
     let mut code: u64 = 0;
     let mut i = f.len();
     while 0 < i {
         i -= 1;
-        code = code * 256 + f[i] as u64;
+        let b = f[i];
+        if fields::is_name_byte(b) {
+            code = code * 256 + b as u64;
+        } else {
+            return 0;
+        }
     }
     code
+}
+
+// The place of a number among the first n of these, from 0; n where it is not among them.
+pub fn place_of(codes: &[u64], n: usize, code: u64) -> usize
+    requires { ⌜ n ≤ length (now codes) ⌝ }
+    ensures { λ r. ⌜ r ≡ placeOf code (take n (now (codes .entry))) ⌝ }
+{
+    let mut i = 0;
+    while i < n {
+        if codes[i] == code {
+            return i;
+        }
+        i += 1;
+    }
+    i
 }

@@ -9,7 +9,7 @@ use task_set::Task;
 ghost use mathlib.Core.Path.{_≡_};
 ghost use Prim.Native.Nat.{_≤_};
 ghost use Rattle.refusal.specs.Limits.{lockLimit};
-ghost use Rattle.plan_file.specs.Code.Entries.{FineNames, useAt, lockEntry};
+ghost use Rattle.plan_file.specs.Code.Entries.{FineNames, NumbersOf, useAt, lockEntry};
 
 // How long a task holds the lock at the place j of its part; 0 where it does not use it.
 fn use_at(task: Task, j: usize) -> u64
@@ -22,6 +22,7 @@ fn use_at(task: Task, j: usize) -> u64
     uses[j]
 }
 
+// The numbers of the part's lock names stand in `codes`.
 pub fn ask_lock(
     s: &[u8],
     line: u64,
@@ -30,17 +31,19 @@ pub fn ask_lock(
     locks: Names,
     name: Span,
     held: Span,
+    codes: &[u64],
 ) -> Entry
-    requires { ⌜ FineNames locks × (locks .count ≤ lockLimit) ⌝ }
+    requires { ⌜ FineNames locks × (locks .count ≤ lockLimit) × NumbersOf (now s) locks (now codes) ⌝ }
     ensures { λ r. ⌜ r ≡ lockEntry (now (s .entry)) line allowed last locks name held ⌝ }
 {
     if !allowed {
         return Entry::Refused(Refusal::Misplaced(line));
     }
-    if !fields::is_name(stretch::bytes(s, name)) {
+    let code = codes::name_code(stretch::bytes(s, name));
+    if code == 0 {
         return Entry::Refused(Refusal::BadName(line));
     }
-    let j = plan_file::place_in(s, locks, name);
+    let j = codes::place_of(codes, locks.count, code);
     if 1 <= use_at(last, j) {
         return Entry::Refused(Refusal::KnownName(line));
     }

@@ -31,7 +31,7 @@ pub place-later : (name n : List ℕ) (ns : List (List ℕ)) → same name n ≡
 unfolding placeAmong
 place-later name n ns e = simp e
 
-place-none : (name : List ℕ) → placeAmong name [] ≡ 0
+pub place-none : (name : List ℕ) → placeAmong name [] ≡ 0
 unfolding placeAmong
 place-none name = refl
 

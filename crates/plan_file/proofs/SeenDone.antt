@@ -40,13 +40,13 @@ part-done n allowed parts name P e =
     let p = number-range P (yes-to 3) in
     (yes-to 0, leb-true (suc (length parts)) partLimit (yes-to 4), p .0, p .1, yes-to 1)
 
-pub task-done : (n : ℕ) (allowed : Bool) (tasks : List (List ℕ)) (name T C D : List ℕ) → firstNo (taskQuestions n allowed tasks name T C D) ≡ Done → (allowed ≡ true) × (length tasks < taskLimit) × (1 ≤ valueOf C) × (valueOf C ≤ valueOf D) × (valueOf D ≤ valueOf T) × (valueOf T ≤ numberLimit)
+pub task-done : (n : ℕ) (allowed : Bool) (tasks : List (List ℕ)) (name T C D : List ℕ) → firstNo (taskQuestions n allowed tasks name T C D) ≡ Done → (allowed ≡ true) × (length tasks < taskLimit) × (1 ≤ valueOf C) × (valueOf C ≤ valueOf D) × (valueOf D ≤ valueOf T) × (valueOf T ≤ numberLimit) × (isName name ≡ true)
 unfolding taskQuestions
 task-done n allowed tasks name T C D e =
     let yes-to = yes-at (taskQuestions n allowed tasks name T C D) e in
     let numbers = and-iff (isNumber T) (isNumber C && isNumber D) .0 (yes-to 3) in
     let order = and-iff (leb (valueOf C) (valueOf D)) (leb (valueOf D) (valueOf T)) .0 (yes-to 4) in
-    (yes-to 0, leb-true (suc (length tasks)) taskLimit (yes-to 5), number-range C (and-iff (isNumber C) (isNumber D) .0 (numbers .1) .0) .0, leb-true (valueOf C) (valueOf D) (order .0), leb-true (valueOf D) (valueOf T) (order .1), number-range T (numbers .0) .1)
+    (yes-to 0, leb-true (suc (length tasks)) taskLimit (yes-to 5), number-range C (and-iff (isNumber C) (isNumber D) .0 (numbers .1) .0) .0, leb-true (valueOf C) (valueOf D) (order .0), leb-true (valueOf D) (valueOf T) (order .1), number-range T (numbers .0) .1, yes-to 1)
 
 pub lock-done : (n : ℕ) (allowed known : Bool) (locks : List (List ℕ)) (C : ℕ) (name c : List ℕ) → firstNo (lockQuestions n allowed known locks C name c) ≡ Done → (allowed ≡ true) × (known ≡ false) × (1 ≤ valueOf c) × (length (mention locks name) ≤ lockLimit) × (valueOf c ≤ C) × (isName name ≡ true)
 unfolding lockQuestions

@@ -15,6 +15,7 @@ use Rattle.refusal.specs.declared.Outcome.{Outcome}
 use Rattle.refusal.specs.declared.Outcome.the-variants.{Done, Refused}
 use Rattle.refusal.specs.Questions.{firstNo}
 use Rattle.stretch.specs.declared.Span.{Span}
+use Rattle.fields.specs.Fields.{isName}
 use Rattle.stretch.specs.Stretch.{bytesOf}
 use Rattle.records.specs.declared.Shape.{Shape}
 use Rattle.records.specs.declared.Shape.the-variants.{Part as PartShape, Task as TaskShape, Lock as LockShape, End as EndShape, Unknown}
@@ -142,6 +143,7 @@ pub record TaskEntered (s : List ℕ) (seen : Seen) (n : ℕ) (a : Above) (r : S
   pub done : AllDone s n a r
   pub part-above : 1 ≤ length (a .parts)
   pub room : seen .tasks .count < 16
+  pub named : isName (bytesOf s nm) ≡ true
 
 pub record LockEntered (s : List ℕ) (seen : Seen) (n : ℕ) (a : Above) (r : Shape) (nm : Span) (j v : ℕ) : Type 0 where
   pub c : List ℕ
@@ -154,6 +156,7 @@ pub record LockEntered (s : List ℕ) (seen : Seen) (n : ℕ) (a : Above) (r : S
   pub new : among (bytesOf s nm) (locksOf (thisTask a)) ≡ false
   pub positive : 1 ≤ valueOf c
   pub few : length (mention (lockNames (thisPart a)) (bytesOf s nm)) ≤ 8
+  pub named : isName (bytesOf s nm) ≡ true
 
 pub record EndEntered (s : List ℕ) (n : ℕ) (a : Above) (r : Shape) : Type 0 where
   pub is : recordAs s r ≡ end
@@ -196,6 +199,7 @@ module _ (s : List ℕ) (seen : Seen) (a : Above) (seen-is : SeenIs s seen a) (n
         done = d .0;
         part-above = not-empty (a .parts) (and-iff (notBehindEnd a) (partAbove a) .0 (g .0) .1);
         room = omega (arith, g .1, length-map (thisPart a .tasks) (λ t. t .name));
+        named = g .6;
       }
 
   pub lock-entered : (nm : Span) (j v : ℕ) → entryOf s n seen r ≡ Lock nm j v → LockEntered s seen n a r nm j v
@@ -217,6 +221,7 @@ module _ (s : List ℕ) (seen : Seen) (a : Above) (seen-is : SeenIs s seen a) (n
         new = g .1;
         positive = g .2;
         few = g .3;
+        named = g .5;
       }
 
   pub end-entered : entryOf s n seen r ≡ End → EndEntered s n a r

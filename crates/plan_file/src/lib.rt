@@ -3,9 +3,8 @@ use refusal::Refusal;
 use stretch::Span;
 use task_set::Task;
 ghost use mathlib.Core.Path.{_≡_};
-ghost use Prim.Native.Nat.{_<_};
 ghost use Rattle.stretch.specs.Stretch.{bytesOf};
-ghost use Rattle.plan_file.specs.Code.Entries.{FineNames, noNames, noTaskRead, noneSeen, withName, withLockName, placeAmong, namesOf, seenPart, seenTask, seenLock, seenEnd};
+ghost use Rattle.plan_file.specs.Code.Entries.{FineNames, noNames, noTaskRead, placeAmong, namesOf};
 
 // Names in the order of their lines, as stretches of the file.
 pub struct Names {
@@ -61,17 +60,6 @@ pub fn place_in(s: &[u8], names: Names, p: Span) -> usize
     i
 }
 
-// One name more.
-pub fn with_name(names: Names, p: Span) -> Names
-    requires { ⌜ names .count < 16 ⌝ }
-    ensures { λ r. ⌜ r ≡ withName names p ⌝ }
-{
-    let n = names.count;
-    let mut span = names.span;
-    span[n] = p;
-    Names { count: n + 1, span }
-}
-
 // A task's three numbers, or that one of them is malformed.
 pub enum Times {
     Are(u64, u64, u64),
@@ -87,82 +75,4 @@ pub fn no_task() -> Task
         deadline: 0,
         uses: [0; 8],
     }
-}
-
-// Nothing has been read.
-pub fn none_seen() -> Seen
-    ensures { λ r. ⌜ r ≡ noneSeen ⌝ }
-{
-    let none = no_names();
-    let last = no_task();
-    Seen {
-        fresh: false,
-        ended: false,
-        parts: none,
-        tasks: none,
-        locks: none,
-        last,
-    }
-}
-
-// Behind a `part` line with this name.
-pub fn seen_part(seen: Seen, name: Span) -> Seen
-    requires { ⌜ seen .parts .count < 16 ⌝ }
-    ensures { λ r. ⌜ r ≡ seenPart seen name ⌝ }
-{
-    let parts = seen.parts;
-    let mut next = none_seen();
-    next.fresh = true;
-    next.parts = with_name(parts, name);
-    next
-}
-
-// Behind a `task` line with this name.
-pub fn seen_task(seen: Seen, name: Span, task: Task) -> Seen
-    requires { ⌜ seen .tasks .count < 16 ⌝ }
-    ensures { λ r. ⌜ r ≡ seenTask seen name task ⌝ }
-{
-    let tasks = seen.tasks;
-    let mut next = seen;
-    next.fresh = false;
-    next.ended = false;
-    next.tasks = with_name(tasks, name);
-    next.last = task;
-    next
-}
-
-// The names with one more, where j is the place behind them.
-fn with_lock(names: Names, name: Span, j: usize) -> Names
-    requires { ⌜ j < 16 ⌝ }
-    ensures { λ r. ⌜ r ≡ withLockName names name j ⌝ }
-{
-    let n = names.count;
-    if j == n {
-        return with_name(names, name);
-    }
-    names
-}
-
-// Behind a `lock` line: the lock has the place j among those of the part, and its task is now this one.
-pub fn seen_lock(seen: Seen, name: Span, j: usize, task: Task) -> Seen
-    requires { ⌜ j < 16 ⌝ }
-    ensures { λ r. ⌜ r ≡ seenLock seen name j task ⌝ }
-{
-    let locks = seen.locks;
-    let mut next = seen;
-    next.fresh = false;
-    next.ended = false;
-    next.locks = with_lock(locks, name, j);
-    next.last = task;
-    next
-}
-
-// Behind the `end` line.
-pub fn seen_end(seen: Seen) -> Seen
-    ensures { λ r. ⌜ r ≡ seenEnd seen ⌝ }
-{
-    let mut next = seen;
-    next.fresh = false;
-    next.ended = true;
-    next
 }

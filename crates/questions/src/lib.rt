@@ -5,7 +5,7 @@ use records::Shape;
 use refusal::Refusal;
 ghost use mathlib.Core.Path.{_≡_};
 ghost use mathlib.Core.Bool.{_&&_};
-ghost use Rattle.plan_file.specs.Code.Entries.{FineSeen, endEntry, entryOf};
+ghost use Rattle.plan_file.specs.Code.Entries.{FineSeen, NumbersOf, endEntry, entryOf};
 
 fn ask_end(line: u64, allowed: bool) -> Entry
     ensures { λ r. ⌜ r ≡ endEntry line allowed ⌝ }
@@ -23,9 +23,9 @@ fn both(a: bool, b: bool) -> bool
     if a { b } else { false }
 }
 
-// Questions 3 to 9 of the record on a line.
-pub fn entry_at(s: &[u8], line: u64, seen: Seen, r: Shape) -> Entry
-    requires { ⌜ FineSeen seen ⌝ }
+// Questions 3 to 9 of the record on a line. The numbers of the names of the last part's tasks and locks stand in `tasks` and `locks`.
+pub fn entry_at(s: &[u8], line: u64, seen: Seen, r: Shape, tasks: &[u64], locks: &[u64]) -> Entry
+    requires { ⌜ FineSeen seen × NumbersOf (now s) (seen .tasks) (now tasks) × NumbersOf (now s) (seen .locks) (now locks) ⌝ }
     ensures { λ x. ⌜ x ≡ entryOf (now (s .entry)) line seen r ⌝ }
 {
     let open = !seen.ended;
@@ -41,29 +41,31 @@ pub fn entry_at(s: &[u8], line: u64, seen: Seen, r: Shape) -> Entry
             cost,
             deadline,
         } => {
-            let tasks = seen.tasks;
+            let names = seen.tasks;
             task_line::ask_task(
                 s,
                 line,
                 both(open, 1 <= seen.parts.count),
-                tasks,
+                names,
                 name,
                 separation,
                 cost,
                 deadline,
+                tasks,
             )
         }
         Shape::Lock { name, held } => {
             let last = seen.last;
-            let locks = seen.locks;
+            let names = seen.locks;
             lock_line::ask_lock(
                 s,
                 line,
                 both(open, 1 <= seen.tasks.count),
                 last,
-                locks,
+                names,
                 name,
                 held,
+                locks,
             )
         }
         Shape::End => ask_end(line, both(open, both(not_fresh, 1 <= seen.parts.count))),

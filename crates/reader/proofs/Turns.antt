@@ -3,7 +3,7 @@
 use Prim.Native.Nat.{ℕ, _-_, _≤_, _<_}
 use native.Mathlib.Omega.{arith}
 use borrow.Author.Tests.{eq-eqb, ne-eqb}
-use mathlib.Core.Bool.{false}
+use mathlib.Core.Bool.{true, false}
 use mathlib.Core.Path.{_≡_, refl, sym, ap, _∙_, subst, subst₂}
 use mathlib.Core.List.{List, []}
 use lib.ListN.{length, set}
@@ -11,6 +11,7 @@ use Rattle.least.specs.Lists.{pad}
 use Rattle.stretch.specs.declared.Span.{Span}
 use Rattle.stretch.specs.Stretch.{bytesOf}
 use Rattle.task_set.specs.declared.Task.{Task}
+use Rattle.fields.specs.Fields.{isName}
 use Rattle.records.specs.declared.Cursor.{Cursor}
 use Rattle.records.specs.declared.Shape.{Shape}
 use Rattle.records.specs.Records.{Record}
@@ -91,6 +92,9 @@ module _ {n : ℕ} (s : List ℕ) (c : Cursor) (seen : Seen) (opened : ℕ) (nam
     pub task-room : seen .tasks .count < 16
     task-room = entered-task .room
 
+    pub task-named : isName (bytesOf s nm) ≡ true
+    task-named = entered-task .named
+
     abbrev taken : Task
     taken = record { separation = u; cost = v; deadline = w; uses = pad 8 0 [] }
 
@@ -106,6 +110,9 @@ module _ {n : ℕ} (s : List ℕ) (c : Cursor) (seen : Seen) (opened : ℕ) (nam
   module _ (nm : Span) (j v : ℕ) (is : entryOf s (c .line) seen r ≡ LockEntry nm j v) where
     entered-lock : LockEntered s seen (c .line) a r nm j v
     entered-lock = lock-entered s seen a (reading .stands .seen-is) (c .line) r nm j v is
+
+    pub lock-named : isName (bytesOf s nm) ≡ true
+    lock-named = entered-lock .named
 
     pub lock-room : (j < 8) × (1 ≤ seen .tasks .count) × (seen .tasks .count ≤ 16)
     lock-room =

@@ -89,6 +89,9 @@ pub fn read_file(s: &[u8], first: u64) -> PlanFile
     let mut task_names = none;
     let mut locks = none;
     let mut last = no_one;
+    // The numbers of the names of the part's tasks and locks.
+    let mut task_codes = [0u64; 16];
+    let mut lock_codes = [0u64; 16];
     loop {
         let line = c.line;
         match c.next(s) {
@@ -112,7 +115,7 @@ pub fn read_file(s: &[u8], first: u64) -> PlanFile
                     locks,
                     last,
                 };
-                match questions::entry_at(s, line, seen, shape) {
+                match questions::entry_at(s, line, seen, shape, &task_codes, &lock_codes) {
                     Entry::Refused(r) => {
                         return refused_file(r);
                     }
@@ -142,6 +145,7 @@ pub fn read_file(s: &[u8], first: u64) -> PlanFile
                         tasks[n] = last;
                         task_names.span[n] = task_name;
                         task_names.count = n + 1;
+                        task_codes[n] = codes::name_code(stretch::bytes(s, task_name));
                         fresh = false;
                         ended = false;
                         c = next;
@@ -155,6 +159,7 @@ pub fn read_file(s: &[u8], first: u64) -> PlanFile
                         if j == m {
                             locks.span[m] = lock_name;
                             locks.count = m + 1;
+                            lock_codes[m] = codes::name_code(stretch::bytes(s, lock_name));
                         }
                     }
                     Entry::End => {

@@ -8,7 +8,7 @@ use refusal::TASK_LIMIT;
 use stretch::Span;
 ghost use mathlib.Core.Path.{_≡_};
 ghost use Rattle.stretch.specs.Stretch.{bytesOf};
-ghost use Rattle.plan_file.specs.Code.Entries.{FineNames, timesIn, taskEntry};
+ghost use Rattle.plan_file.specs.Code.Entries.{FineNames, NumbersOf, timesIn, taskEntry};
 
 fn read_times(s: &[u8], separation: Span, cost: Span, deadline: Span) -> Times
     ensures { λ r. ⌜ r ≡ timesIn (bytesOf (now (s .entry)) separation) (bytesOf (now (s .entry)) cost) (bytesOf (now (s .entry)) deadline) ⌝ }
@@ -25,6 +25,7 @@ fn read_times(s: &[u8], separation: Span, cost: Span, deadline: Span) -> Times
     Times::Are(t, c, d)
 }
 
+// The numbers of the part's task names stand in `codes`.
 pub fn ask_task(
     s: &[u8],
     line: u64,
@@ -34,18 +35,20 @@ pub fn ask_task(
     separation: Span,
     cost: Span,
     deadline: Span,
+    codes: &[u64],
 ) -> Entry
-    requires { ⌜ FineNames tasks ⌝ }
+    requires { ⌜ FineNames tasks × NumbersOf (now s) tasks (now codes) ⌝ }
     ensures { λ r. ⌜ r ≡ taskEntry (now (s .entry)) line allowed tasks name separation cost deadline ⌝ }
 {
     if !allowed {
         return Entry::Refused(Refusal::Misplaced(line));
     }
-    if !fields::is_name(stretch::bytes(s, name)) {
+    let code = codes::name_code(stretch::bytes(s, name));
+    if code == 0 {
         return Entry::Refused(Refusal::BadName(line));
     }
     let n = tasks.count;
-    if plan_file::place_in(s, tasks, name) < n {
+    if codes::place_of(codes, n, code) < n {
         return Entry::Refused(Refusal::KnownName(line));
     }
     match read_times(s, separation, cost, deadline) {

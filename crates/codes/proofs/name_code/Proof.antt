@@ -1,75 +1,90 @@
--- `codes::name_code` meets its contract. The invariant: the number is that of the bytes from i on.
+-- `codes::name_code` meets its contract. The invariant: the bytes from i on are bytes of a name, and the number is theirs.
 -- Assumes nothing.
-use Prim.Native.Nat.{ℕ, _+_, _*_, _-_, _≤_}
+use Prim.Native.Nat.{ℕ, _+_, _*_, _-_, _^_, _≤_, _<_}
 use native.Mathlib.Omega.{arith}
-use mathlib.Core.Path.{_≡_, sym, ap, _∙_}
+use mathlib.Core.Path.{_≡_, sym, ap, subst, _∙_}
 use mathlib.Core.Bool.{true}
+use mathlib.Core.List.{List}
 use lib.ListN.{length, drop, getD}
 use lib.Seq.{drop-length}
-use borrow.Author.Tests.{not-true, not-false}
 use borrow.Author.Needs.{needs}
-use Rattle.fields.specs.Fields.{isName}
-use Rattle.codes.specs.Code.Codes.{codeOf, codeIf}
-use Rattle.codes.proofs.Codes.{code-none, code-more, code-more-fits, code-name}
+use Rattle.least.specs.Lists.{every}
+use Rattle.least.proofs.Lists.{every-none}
+use Rattle.fields.specs.Fields.{isNameByte}
+use Rattle.codes.specs.Code.Codes.{codeOf}
+use Rattle.codes.proofs.Codes.{code-none, code-more, bytes-more, code-more-fits, code-long, code-stop, code-all}
 use Rattle.codes.proofs.name_code.Statement.{statement}
 use Rattle.codes.proofs.name_code.Tie as tie
 
 abbrev Inv-loop : tie.InvT-loop
-Inv-loop f code₀ i₀ code i = (isName f ≡ true) × (i ≤ length f) × (code ≡ codeOf (drop i f))
+Inv-loop f code₀ i₀ code i = (length f ≤ 8) × (i ≤ length f) × (every isNameByte (drop i f) ≡ true) × (code ≡ codeOf (drop i f))
 
 abbrev μ-loop : tie.MeasureT-loop
 μ-loop f code₀ i₀ code i = i
 
-is-name-requires : tie.Need-is-name-requires Inv-loop μ-loop
-is-name-requires c κs = search needs
+-- the byte in front is one of a name
+abbrev at : tie.Then2 Inv-loop μ-loop → tie.At-loop Inv-loop μ-loop
+at c = c .before .before .before .before
+
+abbrev file : tie.At-loop Inv-loop μ-loop → List ℕ
+file l = l .before .before .before .args .f .now
+
+bytes : (c : tie.Then2 Inv-loop μ-loop) → every isNameByte (drop (at c .loop .i - 1) (file (at c))) ≡ true
+bytes c =
+    let l = at c in
+    bytes-more (file l) (l .loop .i) (omega arith) (l .loop .inv .1) (sym (c .before .is-name-byte .ensures) ∙ c .if2 .taken) (l .loop .inv .2)
+
+fits : (c : tie.Then2 Inv-loop μ-loop) → at c .loop .code * 256 + getD (file (at c)) (at c .loop .i - 1) 0 < 2 ^ 64
+fits c =
+    let l = at c in
+    omega (arith, l .loop .inv .3, code-more-fits (file l) (l .loop .i) (omega arith) (l .loop .inv .1) (l .loop .inv .0) (bytes c))
 
 returns : tie.Need-returns Inv-loop μ-loop
-unfolding codeIf
-returns c = simp (sym (c .before .is-name .ensures) ∙ not-true _ (c .if1 .taken))
+returns c = sym (code-long (c .before .before .args .f .now) (c .if1 .taken))
 
 loop-holds : tie.Need-loop-holds Inv-loop μ-loop
 loop-holds c =
-    let s = c .before .before .before .args .f .now in
-    (sym (c .before .is-name .ensures) ∙ not-false _ (c .if1 .left), omega arith, sym (ap codeOf (drop-length s) ∙ code-none))
+    let s = c .before .before .args .f .now in
+    (c .if1 .left, omega arith, ap (every isNameByte) (drop-length s) ∙ every-none isNameByte, sym (ap codeOf (drop-length s) ∙ code-none))
 
 sub-i : tie.Need-sub-i Inv-loop μ-loop
 sub-i c = search needs
 
-mul-code : tie.Need-mul-code Inv-loop μ-loop
-mul-code c =
-    let l = c .before in
-    let v = l .loop .inv in
-    omega (arith, v .2, code-more-fits (l .before .before .before .before .args .f .now) (l .loop .i) (omega arith) (v .1) (v .0))
+shared-slice-read-b : tie.Need-shared-slice-read-b Inv-loop μ-loop
+shared-slice-read-b c = search needs
 
-shared-slice-read-code : tie.Need-shared-slice-read-code Inv-loop μ-loop
-shared-slice-read-code c = search needs
+is-name-byte-requires : tie.Need-is-name-byte-requires Inv-loop μ-loop
+is-name-byte-requires c κs = search needs
+
+mul-code : tie.Need-mul-code Inv-loop μ-loop
+mul-code c = omega (arith, fits c)
 
 cast-code : tie.Need-cast-code Inv-loop μ-loop
-cast-code c = omega (arith, c .shared-slice-known2 .given (c .before .before .loop .i - 1))
+cast-code c = omega (arith, c .before .before .shared-slice-known2 .given (at c .loop .i - 1))
 
 add-code : tie.Need-add-code Inv-loop μ-loop
-add-code c =
-    let l = c .before .before in
-    let v = l .loop .inv in
-    omega (arith, v .2, code-more-fits (l .before .before .before .before .args .f .now) (l .loop .i) (omega arith) (v .1) (v .0))
+add-code c = omega (arith, fits c)
 
 loop-less : tie.Need-loop-less Inv-loop μ-loop
 loop-less c = search needs
 
 loop-again : tie.Need-loop-again Inv-loop μ-loop
 loop-again c =
-    let l = c .before .before in
-    let s = l .before .before .before .before .args .f .now in
+    let l = at c in
     let v = l .loop .inv in
-    (v .0, omega arith, ap (λ (x : ℕ). x * 256 + getD s (l .loop .i - 1) 0) (v .2) ∙ code-more s (l .loop .i) (omega arith) (v .1))
+    (v .0, omega arith, bytes c, ap (λ (x : ℕ). x * 256 + getD (file l) (l .loop .i - 1) 0) (v .3) ∙ code-more (file l) (l .loop .i) (omega arith) (v .1))
 
 returns-2 : tie.Need-returns-2 Inv-loop μ-loop
 returns-2 c =
+    let l = c .before .before .before .before in
+    sym (code-stop (file l) (l .loop .i - 1) (omega arith) (sym (c .before .is-name-byte .ensures) ∙ c .if2 .left))
+
+returns-3 : tie.Need-returns-3 Inv-loop μ-loop
+returns-3 c =
     let l = c .before in
-    let s = l .before .before .before .before .args .f .now in
     let v = l .loop .inv in
     let z : l .loop .i ≡ 0 = omega arith in
-    v .2 ∙ ap (λ (i : ℕ). codeOf (drop i s)) z ∙ sym (code-name s (v .0))
+    v .3 ∙ ap (λ (i : ℕ). codeOf (drop i (file l))) z ∙ code-all (file l) (v .0) (subst (λ (i : ℕ). every isNameByte (drop i (file l)) ≡ true) z (v .2))
 
 pub name-code-spec : {M : Type 1} → statement M
 name-code-spec =
@@ -77,14 +92,15 @@ name-code-spec =
     (tie.spec
     Inv-loop
     μ-loop
-    is-name-requires
     returns
     loop-holds
     sub-i
+    shared-slice-read-b
+    is-name-byte-requires
     mul-code
-    shared-slice-read-code
     cast-code
     add-code
     loop-less
     loop-again
-    returns-2)
+    returns-2
+    returns-3)

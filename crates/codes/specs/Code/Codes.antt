@@ -1,10 +1,12 @@
 -- A name as one number: its bytes are the digits to base 256, the first byte the lowest.
 --   codeOf bs == the number
 --   codeIf bs == the number of a name, 0 where the bytes are none
+--   placeOf code cs == the place of a number among numbers, from 0; their count where it is not among them
 -- Assumes nothing.
-use Prim.Native.Nat.{ℕ, _+_, _*_}
+use Prim.Native.Nat.{ℕ, zero, suc, _+_, _*_}
 use mathlib.Core.Bool.{cond}
 use mathlib.Core.List.{List, [], _∷_}
+use lib.Dec.{eqb}
 use Rattle.fields.specs.Fields.{isName}
 
 unfoldable pub codeOf : List ℕ → ℕ
@@ -13,3 +15,7 @@ codeOf (b ∷ bs) = b + 256 * codeOf bs
 
 unfoldable pub codeIf : List ℕ → ℕ
 codeIf bs = cond (isName bs) (codeOf bs) 0
+
+unfoldable pub placeOf : ℕ → List ℕ → ℕ
+placeOf code [] = zero
+placeOf code (c ∷ cs) = cond (eqb c code) zero (suc (placeOf code cs))

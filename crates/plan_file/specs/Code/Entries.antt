@@ -4,6 +4,7 @@
 --   entryOf s n seen r == what the record r on line n enters: the first no of its questions, or its numbers
 --   seenPart, seenTask, seenLock, seenEnd == what has been seen behind such a line
 --   FineNames, FineSeen == counts within the places that there are
+--   NumbersOf s ns codes == the array `codes` has the numbers of these names, and each is a name
 -- Assumes nothing.
 use Prim.Native.Nat.{ℕ, zero, suc, _+_, _≤_}
 use mathlib.Core.Path.{_≡_}
@@ -11,7 +12,7 @@ use mathlib.Core.Bool.{Bool, true, false, cond, not, _&&_}
 use mathlib.Core.List.{List, [], _∷_, map}
 use lib.Dec.{leb, eqb}
 use lib.ListN.{length, take, set, getD}
-use Rattle.least.specs.Lists.{pad}
+use Rattle.least.specs.Lists.{pad, every}
 use Rattle.refusal.specs.declared.Outcome.{Outcome}
 use Rattle.refusal.specs.declared.Outcome.the-variants.{Done, Refused}
 use Rattle.refusal.specs.declared.Refusal.the-variants.{Misplaced, BadRecord}
@@ -22,7 +23,8 @@ use Rattle.stretch.specs.Stretch.{bytesOf}
 use Rattle.text.specs.Bytes.{same}
 use Rattle.text.specs.Decimal.{valueOf}
 use Rattle.task_set.specs.declared.Task.{Task as TaskNumbers}
-use Rattle.fields.specs.Fields.{isNumber}
+use Rattle.fields.specs.Fields.{isName, isNumber}
+use Rattle.codes.specs.Code.Codes.{codeIf}
 use Rattle.records.specs.declared.Shape.{Shape}
 use Rattle.records.specs.declared.Shape.the-variants.{Part as PartShape, Task as TaskShape, Lock as LockShape, End as EndShape, Unknown}
 use Rattle.plan_file.specs.declared.Names.{Names}
@@ -43,6 +45,12 @@ namesOf s ns = map (bytesOf s) (take (ns .count) (ns .span))
 pub record FineNames (ns : Names) : Type 0 where
   pub few : ns .count ≤ 16
   pub room : length (ns .span) ≡ 16
+
+-- the numbers of these names, for each its place
+pub record NumbersOf (s : List ℕ) (ns : Names) (codes : List ℕ) : Type 0 where
+  pub room : length codes ≡ 16
+  pub are : take (ns .count) codes ≡ map codeIf (namesOf s ns)
+  pub good : every isName (namesOf s ns) ≡ true
 
 unfoldable pub placeAmong : List ℕ → List (List ℕ) → ℕ
 placeAmong name [] = zero

@@ -1,11 +1,12 @@
--- `reader::read_file` meets its contract. The first loop's invariant is `Reading`: what is left of the file decides, and the locals are what the lines above say.
+-- `reader::read_file` meets its contract. The first loop's invariant is `Reading`: what is left of the file decides, and the locals are what the lines above say; and
+-- the names of the last part have their numbers.
 -- The second gathers the numbers of the lock names, the third marks the parts.
 -- Assumes nothing.
 use Prim.Native.Nat.{ℕ, _-_, _≤_, _<_}
-use mathlib.Core.Path.{_≡_, sym, subst, _∙_}
+use mathlib.Core.Path.{_≡_, sym, ap, subst, _∙_}
 use mathlib.Core.Bool.{Bool}
 use mathlib.Core.List.{List, []}
-use lib.ListN.{length, getD}
+use lib.ListN.{length, set, getD}
 use native.Mathlib.Omega.{arith}
 use borrow.Author.Needs.{needs}
 use Rattle.least.specs.Lists.{pad}
@@ -17,17 +18,19 @@ use Rattle.task_set.specs.declared.Task.{Task}
 use Rattle.records.specs.declared.Cursor.{Cursor}
 use Rattle.records.specs.declared.Shape.{Shape}
 use Rattle.records.specs.Code.Cursor.{RecordIs}
+use Rattle.codes.specs.Code.Codes.{codeIf}
 use Rattle.plan_file.specs.Reading.{readFrom}
 use Rattle.plan_file.specs.Numbers.{numbered}
 use Rattle.plan_file.specs.Stretches.{noSpan}
 use Rattle.plan_file.specs.declared.Names.{Names}
 use Rattle.plan_file.specs.declared.Seen.{Seen}
-use Rattle.plan_file.specs.Code.Entries.{noTaskRead, noneSeen, withName, entryOf, seenPart, seenTask, seenEnd}
+use Rattle.plan_file.specs.Code.Entries.{NumbersOf, noTaskRead, noneSeen, withName, entryOf, seenPart, seenTask, seenEnd}
+use Rattle.plan_file.proofs.Coded.{numbers-none, numbers-with}
 use Rattle.sharing.proofs.Gathered.{Gathered, gathered-start, gathered-step}
 use Rattle.reader.specs.declared.PlanFile.{PlanFile}
 use Rattle.reader.specs.Code.Reader.{FineCounts, refusedFile, heldAt, noPartRead, blankPart, ReadFromIs}
 use Rattle.reader.proofs.Reading.{Reading, reading-start, reading-too-long, refused-file, turn-shortens, reading-fine, reading-refused, reading-broken, reading-over, reading-counts}
-use Rattle.reader.proofs.Turns.{part-room, name-room, task-room, lock-room, reading-part, reading-task, reading-new-lock, reading-known-lock, reading-end}
+use Rattle.reader.proofs.Turns.{part-room, name-room, task-room, task-named, lock-room, lock-named, reading-part, reading-task, reading-new-lock, reading-known-lock, reading-end}
 use Rattle.reader.proofs.Marking.{locksAt, Marking, marking-start, marking-step, reading-marked}
 use Rattle.reader.proofs.read_file.Statement.{statement}
 use Rattle.reader.proofs.read_file.Tie as tie
@@ -37,11 +40,11 @@ abbrev seenBy : Bool → Bool → Names → Names → Names → Task → Seen
 seenBy fresh ended parts task-names locks last = record { fresh = fresh; ended = ended; parts = parts; tasks = task-names; locks = locks; last = last }
 
 abbrev Inv-loop : tie.InvT-loop
-Inv-loop s first c₀ no-one none all₀ open₀ name₀ period₀ tasks₀ fresh₀ ended₀ parts₀ task-names₀ locks₀ last₀ c all «open» name period tasks fresh ended parts task-names locks last =
-    Reading first s c (seenBy fresh ended parts task-names locks last) «open» name period tasks all
+Inv-loop s first c₀ no-one none all₀ open₀ name₀ period₀ tasks₀ fresh₀ ended₀ parts₀ task-names₀ locks₀ last₀ task-codes₀ lock-codes₀ c all «open» name period tasks fresh ended parts task-names locks last task-codes lock-codes =
+    Reading first s c (seenBy fresh ended parts task-names locks last) «open» name period tasks all × NumbersOf s task-names task-codes × NumbersOf s locks lock-codes
 
 abbrev μ-loop : tie.MeasureT-loop
-μ-loop s first c₀ no-one none all₀ open₀ name₀ period₀ tasks₀ fresh₀ ended₀ parts₀ task-names₀ locks₀ last₀ c all «open» name period tasks fresh ended parts task-names locks last = length s - c .at
+μ-loop s first c₀ no-one none all₀ open₀ name₀ period₀ tasks₀ fresh₀ ended₀ parts₀ task-names₀ locks₀ last₀ task-codes₀ lock-codes₀ c all «open» name period tasks fresh ended parts task-names locks last task-codes lock-codes = length s - c .at
 
 abbrev Inv-loop2 : tie.InvT-loop2
 Inv-loop2 s first all «open» period fresh ended n codes₀ k₀ codes k = (k ≤ n) × Gathered s (locksAt all) codes k
@@ -68,16 +71,16 @@ seen l = seenBy (l .loop .fresh) (l .loop .ended) (l .loop .parts) (l .loop .tas
 
 -- a record was entered: where the turn began, what stands there, and what the entry is
 abbrev at : tie.After-entry-at Inv-loop μ-loop Inv-loop2 μ-loop2 Inv-loop3 μ-loop3 → tie.At-loop Inv-loop μ-loop Inv-loop2 μ-loop2 Inv-loop3 μ-loop3
-at e = e .before .before .before .before .before
+at e = e .before .before .before .before .before .before .before
 
 abbrev shape : tie.After-entry-at Inv-loop μ-loop Inv-loop2 μ-loop2 Inv-loop3 μ-loop3 → Shape
-shape e = e .before .before .shape .given .0 .0
+shape e = e .before .before .before .before .shape .given .0 .0
 
 abbrev behind : tie.After-entry-at Inv-loop μ-loop Inv-loop2 μ-loop2 Inv-loop3 μ-loop3 → Cursor
-behind e = e .before .before .shape .given .0 .1 .0
+behind e = e .before .before .before .before .shape .given .0 .1 .0
 
 record-is : (e : tie.After-entry-at Inv-loop μ-loop Inv-loop2 μ-loop2 Inv-loop3 μ-loop3) → RecordIs (file (at e)) (at e .loop .c) (shape e) (behind e)
-record-is e = rw (e .before .before .shape .given .1) at (e .before .before .before .before .next .ensures)
+record-is e = rw (e .before .before .before .before .shape .given .1) at (e .before .before .before .before .before .before .next .ensures)
 
 entry-is : (e : tie.After-entry-at Inv-loop μ-loop Inv-loop2 μ-loop2 Inv-loop3 μ-loop3) → entryOf (file (at e)) (at e .loop .c .line) (seen (at e)) (shape e) ≡ e .entry-at .result
 entry-is e = sym (e .entry-at .ensures)
@@ -88,26 +91,26 @@ shorter e = turn-shortens (file (at e)) (at e .loop .c) (shape e) (behind e) (re
 part-at : (e : tie.After-entry-at Inv-loop μ-loop Inv-loop2 μ-loop2 Inv-loop3 μ-loop3) → at e .loop .«open» < 16
 part-at e =
     let l = at e in
-    part-room (file l) (l .loop .c) (seen l) (l .loop .«open») (l .loop .name) (l .loop .period) (l .loop .tasks) (l .loop .all) (l .loop .inv) (shape e) (behind e) (record-is e)
+    part-room (file l) (l .loop .c) (seen l) (l .loop .«open») (l .loop .name) (l .loop .period) (l .loop .tasks) (l .loop .all) (l .loop .inv .0) (shape e) (behind e) (record-is e)
 
 -- there is room for what the record enters
 room-of-part : (c : tie.After-closed-part Inv-loop μ-loop Inv-loop2 μ-loop2 Inv-loop3 μ-loop3) → at (c .before .before .before .before) .loop .parts .count < 16
 room-of-part c =
     let e = c .before .before .before .before in
     let l = at e in
-    name-room (file l) (l .loop .c) (seen l) (l .loop .«open») (l .loop .name) (l .loop .period) (l .loop .tasks) (l .loop .all) (l .loop .inv) (shape e) (behind e) (record-is e) (c .before .before .new-name .given .0 .0) (c .before .before .new-name .given .0 .1 .0) (entry-is e ∙ c .before .before .new-name .given .1)
+    name-room (file l) (l .loop .c) (seen l) (l .loop .«open») (l .loop .name) (l .loop .period) (l .loop .tasks) (l .loop .all) (l .loop .inv .0) (shape e) (behind e) (record-is e) (c .before .before .new-name .given .0 .0) (c .before .before .new-name .given .0 .1 .0) (entry-is e ∙ c .before .before .new-name .given .1)
 
 room-of-task : (c : tie.After-known-told4 Inv-loop μ-loop Inv-loop2 μ-loop2 Inv-loop3 μ-loop3) → at (c .before .before .before) .loop .task-names .count < 16
 room-of-task c =
     let e = c .before .before .before in
     let l = at e in
-    task-room (file l) (l .loop .c) (seen l) (l .loop .«open») (l .loop .name) (l .loop .period) (l .loop .tasks) (l .loop .all) (l .loop .inv) (shape e) (behind e) (record-is e) (c .before .task-name .given .0 .0) (c .before .task-name .given .0 .1 .0) (c .before .task-name .given .0 .1 .1 .0) (c .before .task-name .given .0 .1 .1 .1 .0) (entry-is e ∙ c .before .task-name .given .1)
+    task-room (file l) (l .loop .c) (seen l) (l .loop .«open») (l .loop .name) (l .loop .period) (l .loop .tasks) (l .loop .all) (l .loop .inv .0) (shape e) (behind e) (record-is e) (c .before .task-name .given .0 .0) (c .before .task-name .given .0 .1 .0) (c .before .task-name .given .0 .1 .1 .0) (c .before .task-name .given .0 .1 .1 .1 .0) (entry-is e ∙ c .before .task-name .given .1)
 
 room-of-lock : (c : tie.After-known-told5 Inv-loop μ-loop Inv-loop2 μ-loop2 Inv-loop3 μ-loop3) → (c .before .lock-name .given .0 .1 .0 < 8) × (1 ≤ at (c .before .before .before) .loop .task-names .count) × (at (c .before .before .before) .loop .task-names .count ≤ 16)
 room-of-lock c =
     let e = c .before .before .before in
     let l = at e in
-    lock-room (file l) (l .loop .c) (seen l) (l .loop .«open») (l .loop .name) (l .loop .period) (l .loop .tasks) (l .loop .all) (l .loop .inv) (shape e) (behind e) (record-is e) (c .before .lock-name .given .0 .0) (c .before .lock-name .given .0 .1 .0) (c .before .lock-name .given .0 .1 .1 .0) (entry-is e ∙ c .before .lock-name .given .1)
+    lock-room (file l) (l .loop .c) (seen l) (l .loop .«open») (l .loop .name) (l .loop .period) (l .loop .tasks) (l .loop .all) (l .loop .inv .0) (shape e) (behind e) (record-is e) (c .before .lock-name .given .0 .0) (c .before .lock-name .given .0 .1 .0) (c .before .lock-name .given .0 .1 .1 .0) (entry-is e ∙ c .before .lock-name .given .1)
 
 -- the file is over: where its last turn began
 abbrev over : tie.Then2 Inv-loop μ-loop Inv-loop2 μ-loop2 Inv-loop3 μ-loop3 → tie.At-loop Inv-loop μ-loop Inv-loop2 μ-loop2 Inv-loop3 μ-loop3
@@ -116,12 +119,12 @@ over t = t .before .before .before .before
 few : (t : tie.Then2 Inv-loop μ-loop Inv-loop2 μ-loop2 Inv-loop3 μ-loop3) → over t .loop .parts .count ≤ 16
 few t =
     let l = over t in
-    reading-fine (file l) (l .loop .c) (seen l) (l .loop .«open») (l .loop .name) (l .loop .period) (l .loop .tasks) (l .loop .all) (l .loop .inv) .parts .few
+    reading-fine (file l) (l .loop .c) (seen l) (l .loop .«open») (l .loop .name) (l .loop .period) (l .loop .tasks) (l .loop .all) (l .loop .inv .0) .parts .few
 
 counts : (t : tie.Then2 Inv-loop μ-loop Inv-loop2 μ-loop2 Inv-loop3 μ-loop3) (k : ℕ) → k < over t .loop .parts .count → FineCounts (getD (over t .loop .all) k blankPart)
 counts t =
     let l = over t in
-    reading-counts (file l) (l .loop .c) (seen l) (l .loop .«open») (l .loop .name) (l .loop .period) (l .loop .tasks) (l .loop .all) (l .loop .inv)
+    reading-counts (file l) (l .loop .c) (seen l) (l .loop .«open») (l .loop .name) (l .loop .period) (l .loop .tasks) (l .loop .all) (l .loop .inv .0)
 
 refused-file-requires : tie.Need-refused-file-requires Inv-loop μ-loop Inv-loop2 μ-loop2 Inv-loop3 μ-loop3
 refused-file-requires c κs = search needs
@@ -150,7 +153,7 @@ loop-holds c =
     let n = c .before .before .before .new in
     let start : _≡_ {A = Cursor} (record { at = 0; line = a .first }) (n .result) = λ i. record { at = sym (n .ensures .0) i; line = sym (n .ensures .1) i } in
     rw (c .no-part .ensures, c .before .no-names .ensures, c .before .before .no-task .ensures)
-    (subst (λ (k : Cursor). Reading (a .first) (a .s .now) k noneSeen 0 noSpan 0 (pad 16 noTaskRead []) (pad 16 noPartRead [])) start (reading-start (a .first) (a .s .now) (omega arith)))
+    (subst (λ (k : Cursor). Reading (a .first) (a .s .now) k noneSeen 0 noSpan 0 (pad 16 noTaskRead []) (pad 16 noPartRead [])) start (reading-start (a .first) (a .s .now) (omega arith)), numbers-none (a .s .now) _ (length-pad {A = ℕ} 16 0 []), numbers-none (a .s .now) _ (length-pad {A = ℕ} 16 0 []))
 
 next-requires : tie.Need-next-requires Inv-loop μ-loop Inv-loop2 μ-loop2 Inv-loop3 μ-loop3
 next-requires c κs = search needs
@@ -165,7 +168,7 @@ returns-2 : tie.Need-returns-2 Inv-loop μ-loop Inv-loop2 μ-loop2 Inv-loop3 μ-
 returns-2 c =
     let l = c .before .before .before .before .before in
     refused-is (file l) (Misplaced (l .loop .c .line)) (c .refused-file2 .result) (c .refused-file2 .ensures)
-    (reading-over (file l) (l .loop .c) (seen l) (l .loop .«open») (l .loop .name) (l .loop .period) (l .loop .tasks) (l .loop .all) (l .loop .inv) (rw (c .before .before .enum-told .given .1) at (c .before .before .before .before .next .ensures)) (c .before .if2 .left))
+    (reading-over (file l) (l .loop .c) (seen l) (l .loop .«open») (l .loop .name) (l .loop .period) (l .loop .tasks) (l .loop .all) (l .loop .inv .0) (rw (c .before .before .enum-told .given .1) at (c .before .before .before .before .next .ensures)) (c .before .if2 .left))
 
 enum-told-2 : tie.Need-enum-told-2 Inv-loop μ-loop Inv-loop2 μ-loop2 Inv-loop3 μ-loop3
 enum-told-2 c = search needs
@@ -177,13 +180,21 @@ returns-3 : tie.Need-returns-3 Inv-loop μ-loop Inv-loop2 μ-loop2 Inv-loop3 μ-
 returns-3 c =
     let l = c .before .before .before .before in
     refused-is (file l) (BadLine (l .loop .c .line)) (c .refused-file3 .result) (c .refused-file3 .ensures)
-    (reading-broken (file l) (l .loop .c) (seen l) (l .loop .«open») (l .loop .name) (l .loop .period) (l .loop .tasks) (l .loop .all) (l .loop .inv) (rw (c .before .enum-told2 .given .1) at (c .before .before .before .next .ensures)))
+    (reading-broken (file l) (l .loop .c) (seen l) (l .loop .«open») (l .loop .name) (l .loop .period) (l .loop .tasks) (l .loop .all) (l .loop .inv .0) (rw (c .before .enum-told2 .given .1) at (c .before .before .before .next .ensures)))
 
 enum-known-shape : tie.Need-enum-known-shape Inv-loop μ-loop Inv-loop2 μ-loop2 Inv-loop3 μ-loop3
 enum-known-shape c = search needs
 
+slice-aggregate-entry-at : tie.Need-slice-aggregate-entry-at Inv-loop μ-loop Inv-loop2 μ-loop2 Inv-loop3 μ-loop3
+slice-aggregate-entry-at c = sym (c .before .before .before .before .before .loop .inv .1 .room)
+
+slice-aggregate-entry-at-2 : tie.Need-slice-aggregate-entry-at-2 Inv-loop μ-loop Inv-loop2 μ-loop2 Inv-loop3 μ-loop3
+slice-aggregate-entry-at-2 c = sym (c .before .before .before .before .before .before .loop .inv .2 .room)
+
 entry-at-requires : tie.Need-entry-at-requires Inv-loop μ-loop Inv-loop2 μ-loop2 Inv-loop3 μ-loop3
-entry-at-requires c κs = search needs
+entry-at-requires c κs =
+    let l = c .before .before .before .before .before .before in
+    (reading-fine (file l) (l .loop .c) (seen l) (l .loop .«open») (l .loop .name) (l .loop .period) (l .loop .tasks) (l .loop .all) (l .loop .inv .0), l .loop .inv .1, l .loop .inv .2)
 
 enum-known-r : tie.Need-enum-known-r Inv-loop μ-loop Inv-loop2 μ-loop2 Inv-loop3 μ-loop3
 enum-known-r c = search needs
@@ -196,7 +207,7 @@ returns-4 c =
     let e = c .before .before .before .before in
     let l = at e in
     refused-is (file l) (c .before .before .r .given .0 .0) (c .refused-file4 .result) (c .refused-file4 .ensures)
-    (reading-refused (file l) (l .loop .c) (seen l) (l .loop .«open») (l .loop .name) (l .loop .period) (l .loop .tasks) (l .loop .all) (l .loop .inv) (shape e) (behind e) (record-is e) (c .before .before .r .given .0 .0) (entry-is e ∙ c .before .before .r .given .1))
+    (reading-refused (file l) (l .loop .c) (seen l) (l .loop .«open») (l .loop .name) (l .loop .period) (l .loop .tasks) (l .loop .all) (l .loop .inv .0) (shape e) (behind e) (record-is e) (c .before .before .r .given .0 .0) (entry-is e ∙ c .before .before .r .given .1))
 
 enum-known-new-name : tie.Need-enum-known-new-name Inv-loop μ-loop Inv-loop2 μ-loop2 Inv-loop3 μ-loop3
 enum-known-new-name c = search needs
@@ -227,8 +238,8 @@ unfolding pad seenPart withName
 loop-again c =
     let e = c .before .before .before .before in
     let l = at e in
-    let law = reading-part (file l) (l .loop .c) (seen l) (l .loop .«open») (l .loop .name) (l .loop .period) (l .loop .tasks) (l .loop .all) (l .loop .inv) (shape e) (behind e) (record-is e) (c .before .before .new-name .given .0 .0) (c .before .before .new-name .given .0 .1 .0) (entry-is e ∙ c .before .before .new-name .given .1) in
-    rw (c .closed-part .ensures, l .before .before .no-names .ensures, l .before .before .before .no-task .ensures) law
+    let law = reading-part (file l) (l .loop .c) (seen l) (l .loop .«open») (l .loop .name) (l .loop .period) (l .loop .tasks) (l .loop .all) (l .loop .inv .0) (shape e) (behind e) (record-is e) (c .before .before .new-name .given .0 .0) (c .before .before .new-name .given .0 .1 .0) (entry-is e ∙ c .before .before .new-name .given .1) in
+    rw (c .closed-part .ensures, l .before .before .no-names .ensures, l .before .before .before .no-task .ensures) (law, numbers-none (file l) (l .loop .task-codes) (l .loop .inv .1 .room), numbers-none (file l) (l .loop .lock-codes) (l .loop .inv .2 .room))
 
 enum-known-task-name : tie.Need-enum-known-task-name Inv-loop μ-loop Inv-loop2 μ-loop2 Inv-loop3 μ-loop3
 enum-known-task-name c = search needs
@@ -248,15 +259,32 @@ element-set-from-task-name c = room-of-task c
 add-task-names : tie.Need-add-task-names Inv-loop μ-loop Inv-loop2 μ-loop2 Inv-loop3 μ-loop3
 add-task-names c = omega (arith, room-of-task c)
 
+bytes-requires : tie.Need-bytes-requires Inv-loop μ-loop Inv-loop2 μ-loop2 Inv-loop3 μ-loop3
+bytes-requires c κs = search needs
+
+name-code-requires : tie.Need-name-code-requires Inv-loop μ-loop Inv-loop2 μ-loop2 Inv-loop3 μ-loop3
+name-code-requires c κs = search needs
+
+mul-task-codes : tie.Need-mul-task-codes Inv-loop μ-loop Inv-loop2 μ-loop2 Inv-loop3 μ-loop3
+mul-task-codes c = omega (arith, room-of-task (c .before .before))
+
+array-write-task-codes : tie.Need-array-write-task-codes Inv-loop μ-loop Inv-loop2 μ-loop2 Inv-loop3 μ-loop3
+array-write-task-codes c = room-of-task (c .before .before)
+
 loop-less-2 : tie.Need-loop-less-2 Inv-loop μ-loop Inv-loop2 μ-loop2 Inv-loop3 μ-loop3
-loop-less-2 c = shorter (c .before .before .before)
+loop-less-2 c = shorter (c .before .before .before .before .before)
 
 loop-again-2 : tie.Need-loop-again-2 Inv-loop μ-loop Inv-loop2 μ-loop2 Inv-loop3 μ-loop3
 unfolding pad seenTask withName
 loop-again-2 c =
-    let e = c .before .before .before in
+    let k = c .before .before in
+    let e = k .before .before .before in
     let l = at e in
-    reading-task (file l) (l .loop .c) (seen l) (l .loop .«open») (l .loop .name) (l .loop .period) (l .loop .tasks) (l .loop .all) (l .loop .inv) (shape e) (behind e) (record-is e) (c .before .task-name .given .0 .0) (c .before .task-name .given .0 .1 .0) (c .before .task-name .given .0 .1 .1 .0) (c .before .task-name .given .0 .1 .1 .1 .0) (entry-is e ∙ c .before .task-name .given .1)
+    let g = k .before .task-name .given in
+    let is = entry-is e ∙ g .1 in
+    let named = task-named (file l) (l .loop .c) (seen l) (l .loop .«open») (l .loop .name) (l .loop .period) (l .loop .tasks) (l .loop .all) (l .loop .inv .0) (shape e) (behind e) (record-is e) (g .0 .0) (g .0 .1 .0) (g .0 .1 .1 .0) (g .0 .1 .1 .1 .0) is in
+    let numbers = numbers-with (file l) (l .loop .task-names) (l .loop .task-codes) (l .loop .inv .1) (g .0 .0) (reading-fine (file l) (l .loop .c) (seen l) (l .loop .«open») (l .loop .name) (l .loop .period) (l .loop .tasks) (l .loop .all) (l .loop .inv .0) .tasks) (room-of-task k) named in
+    (reading-task (file l) (l .loop .c) (seen l) (l .loop .«open») (l .loop .name) (l .loop .period) (l .loop .tasks) (l .loop .all) (l .loop .inv .0) (shape e) (behind e) (record-is e) (g .0 .0) (g .0 .1 .0) (g .0 .1 .1 .0) (g .0 .1 .1 .1 .0) is, subst (λ (x : ℕ). NumbersOf (file l) (withName (l .loop .task-names) (g .0 .0)) (set (l .loop .task-codes) (l .loop .task-names .count) x)) (sym (c .name-code .ensures ∙ ap codeIf (c .before .bytes .ensures))) numbers, l .loop .inv .2)
 
 enum-known-lock-name : tie.Need-enum-known-lock-name Inv-loop μ-loop Inv-loop2 μ-loop2 Inv-loop3 μ-loop3
 enum-known-lock-name c = search needs
@@ -285,15 +313,33 @@ element-set-from-lock-name c = omega (arith, room-of-lock (c .before))
 add-locks : tie.Need-add-locks Inv-loop μ-loop Inv-loop2 μ-loop2 Inv-loop3 μ-loop3
 add-locks c = omega (arith, room-of-lock (c .before))
 
+bytes-requires-2 : tie.Need-bytes-requires-2 Inv-loop μ-loop Inv-loop2 μ-loop2 Inv-loop3 μ-loop3
+bytes-requires-2 c κs = search needs
+
+name-code-requires-2 : tie.Need-name-code-requires-2 Inv-loop μ-loop Inv-loop2 μ-loop2 Inv-loop3 μ-loop3
+name-code-requires-2 c κs = search needs
+
+mul-lock-codes : tie.Need-mul-lock-codes Inv-loop μ-loop Inv-loop2 μ-loop2 Inv-loop3 μ-loop3
+mul-lock-codes c = omega (arith, room-of-lock (c .before .before .before), c .before .before .if3 .taken)
+
+array-write-lock-codes : tie.Need-array-write-lock-codes Inv-loop μ-loop Inv-loop2 μ-loop2 Inv-loop3 μ-loop3
+array-write-lock-codes c = omega (arith, room-of-lock (c .before .before .before), c .before .before .if3 .taken)
+
 loop-less-3 : tie.Need-loop-less-3 Inv-loop μ-loop Inv-loop2 μ-loop2 Inv-loop3 μ-loop3
-loop-less-3 c = shorter (c .before .before .before .before)
+loop-less-3 c = shorter (c .before .before .before .before .before .before)
 
 loop-again-3 : tie.Need-loop-again-3 Inv-loop μ-loop Inv-loop2 μ-loop2 Inv-loop3 μ-loop3
 unfolding heldAt withName
 loop-again-3 c =
-    let e = c .before .before .before .before in
+    let t = c .before .before in
+    let k = t .before in
+    let e = k .before .before .before in
     let l = at e in
-    reading-new-lock (file l) (l .loop .c) (seen l) (l .loop .«open») (l .loop .name) (l .loop .period) (l .loop .tasks) (l .loop .all) (l .loop .inv) (shape e) (behind e) (record-is e) (c .before .before .lock-name .given .0 .0) (c .before .before .lock-name .given .0 .1 .0) (c .before .before .lock-name .given .0 .1 .1 .0) (entry-is e ∙ c .before .before .lock-name .given .1) (c .if3 .taken)
+    let g = k .before .lock-name .given in
+    let is = entry-is e ∙ g .1 in
+    let named = lock-named (file l) (l .loop .c) (seen l) (l .loop .«open») (l .loop .name) (l .loop .period) (l .loop .tasks) (l .loop .all) (l .loop .inv .0) (shape e) (behind e) (record-is e) (g .0 .0) (g .0 .1 .0) (g .0 .1 .1 .0) is in
+    let numbers = numbers-with (file l) (l .loop .locks) (l .loop .lock-codes) (l .loop .inv .2) (g .0 .0) (reading-fine (file l) (l .loop .c) (seen l) (l .loop .«open») (l .loop .name) (l .loop .period) (l .loop .tasks) (l .loop .all) (l .loop .inv .0) .locks) (omega (arith, room-of-lock k, t .if3 .taken)) named in
+    (reading-new-lock (file l) (l .loop .c) (seen l) (l .loop .«open») (l .loop .name) (l .loop .period) (l .loop .tasks) (l .loop .all) (l .loop .inv .0) (shape e) (behind e) (record-is e) (g .0 .0) (g .0 .1 .0) (g .0 .1 .1 .0) is (t .if3 .taken), l .loop .inv .1, subst (λ (x : ℕ). NumbersOf (file l) (withName (l .loop .locks) (g .0 .0)) (set (l .loop .lock-codes) (l .loop .locks .count) x)) (sym (c .name-code2 .ensures ∙ ap codeIf (c .before .bytes2 .ensures))) numbers)
 
 loop-less-4 : tie.Need-loop-less-4 Inv-loop μ-loop Inv-loop2 μ-loop2 Inv-loop3 μ-loop3
 loop-less-4 c = shorter (c .before .before .before .before)
@@ -303,7 +349,8 @@ unfolding heldAt
 loop-again-4 c =
     let e = c .before .before .before .before in
     let l = at e in
-    reading-known-lock (file l) (l .loop .c) (seen l) (l .loop .«open») (l .loop .name) (l .loop .period) (l .loop .tasks) (l .loop .all) (l .loop .inv) (shape e) (behind e) (record-is e) (c .before .before .lock-name .given .0 .0) (c .before .before .lock-name .given .0 .1 .0) (c .before .before .lock-name .given .0 .1 .1 .0) (entry-is e ∙ c .before .before .lock-name .given .1) (c .if3 .left)
+    let g = c .before .before .lock-name .given in
+    (reading-known-lock (file l) (l .loop .c) (seen l) (l .loop .«open») (l .loop .name) (l .loop .period) (l .loop .tasks) (l .loop .all) (l .loop .inv .0) (shape e) (behind e) (record-is e) (g .0 .0) (g .0 .1 .0) (g .0 .1 .1 .0) (entry-is e ∙ g .1) (c .if3 .left), l .loop .inv .1, l .loop .inv .2)
 
 enum-told-3 : tie.Need-enum-told-3 Inv-loop μ-loop Inv-loop2 μ-loop2 Inv-loop3 μ-loop3
 enum-told-3 c = search needs
@@ -325,7 +372,7 @@ unfolding seenEnd
 loop-again-5 c =
     let e = c .before .before .before in
     let l = at e in
-    rw (c .closed-part2 .ensures) (reading-end (file l) (l .loop .c) (seen l) (l .loop .«open») (l .loop .name) (l .loop .period) (l .loop .tasks) (l .loop .all) (l .loop .inv) (shape e) (behind e) (record-is e) (entry-is e ∙ c .before .enum-told3 .given .1))
+    rw (c .closed-part2 .ensures) (reading-end (file l) (l .loop .c) (seen l) (l .loop .«open») (l .loop .name) (l .loop .period) (l .loop .tasks) (l .loop .all) (l .loop .inv .0) (shape e) (behind e) (record-is e) (entry-is e ∙ c .before .enum-told3 .given .1), l .loop .inv .1, l .loop .inv .2)
 
 loop2-holds : tie.Need-loop2-holds Inv-loop μ-loop Inv-loop2 μ-loop2 Inv-loop3 μ-loop3
 loop2-holds c = (omega arith, gathered-start _ _)
@@ -385,7 +432,7 @@ loop3-again : tie.Need-loop3-again Inv-loop μ-loop Inv-loop2 μ-loop2 Inv-loop3
 loop3-again c =
     let l = c .before .before .before .before .before in
     let t = l .before .before .before in
-    (omega arith, marking-step _ _ (over t .loop .all) (l .loop3 .all) (l .loop3 .k) _ (l .loop3 .inv .1) (omega (arith, few t, over t .loop .inv .stands .room)) (c .before .before .marks-at .ensures))
+    (omega arith, marking-step _ _ (over t .loop .all) (l .loop3 .all) (l .loop3 .k) _ (l .loop3 .inv .1) (omega (arith, few t, over t .loop .inv .0 .stands .room)) (c .before .before .marks-at .ensures))
 
 returns-5 : tie.Need-returns-5 Inv-loop μ-loop Inv-loop2 μ-loop2 Inv-loop3 μ-loop3
 returns-5 c =
@@ -396,7 +443,7 @@ returns-5 c =
     let n = l .loop .parts .count in
     let e : g .k ≡ n = omega arith in
     let d : m .k ≡ n = omega arith in
-    reading-marked (file l) (l .loop .c) (seen l) (l .loop .«open») (l .loop .name) (l .loop .period) (l .loop .tasks) (l .loop .all) (l .loop .inv)
+    reading-marked (file l) (l .loop .c) (seen l) (l .loop .«open») (l .loop .name) (l .loop .period) (l .loop .tasks) (l .loop .all) (l .loop .inv .0)
     (rw (t .before .enum-told .given .1) at (t .before .before .before .next .ensures)) (t .if2 .taken)
     (g .codes) (m .all) (subst (Gathered (file l) (locksAt (l .loop .all)) (g .codes)) e (g .inv .1)) (subst (Marking (g .codes) n (l .loop .all) (m .all)) d (m .inv .1))
 
@@ -425,6 +472,8 @@ read-file-spec =
     refused-file-requires-3
     returns-3
     enum-known-shape
+    slice-aggregate-entry-at
+    slice-aggregate-entry-at-2
     entry-at-requires
     enum-known-r
     refused-file-requires-4
@@ -444,6 +493,10 @@ read-file-spec =
     mul-task-name
     element-set-from-task-name
     add-task-names
+    bytes-requires
+    name-code-requires
+    mul-task-codes
+    array-write-task-codes
     loop-less-2
     loop-again-2
     enum-known-lock-name
@@ -455,6 +508,10 @@ read-file-spec =
     mul-lock-name
     element-set-from-lock-name
     add-locks
+    bytes-requires-2
+    name-code-requires-2
+    mul-lock-codes
+    array-write-lock-codes
     loop-less-3
     loop-again-3
     loop-less-4
