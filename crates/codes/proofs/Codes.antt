@@ -15,7 +15,7 @@ use Rattle.least.proofs.Members.{getD-member}
 use Rattle.text.specs.Decimal.{isDigit}
 use Rattle.fields.specs.Fields.{isNameByte, isName}
 use Rattle.fields.proofs.Fields.{name-iff}
-use Rattle.codes.specs.Code.Codes.{codeOf, codeIf}
+use Rattle.codes.specs.Code.Codes.{byteIf, codeOf, codeIf}
 
 -- a byte of a name is a digit to base 256, and not 0
 byte-least : (b : ℕ) → isNameByte b ≡ true → 48 ≤ b
@@ -37,6 +37,29 @@ byte-most b e = go (leb b 122) refl
     go false h =
         let l : 122 < b = leb-false b 122 h in
         let z : false ≡ true = simp (lt-leb b 57 (omega arith), h, and-false) at e in absurd (false≢true z)
+
+-- by whether it is one
+pub byte-none : (b : ℕ) → isNameByte b ≡ false → byteIf b ≡ 0
+unfolding byteIf
+byte-none b e = simp e
+
+pub byte-some : (b : ℕ) → isNameByte b ≡ true → byteIf b ≡ b
+unfolding byteIf
+byte-some b e = simp e
+
+pub byte-zero : (b : ℕ) → byteIf b ≡ 0 → isNameByte b ≡ false
+byte-zero b z = go (isNameByte b) refl
+  where
+    go : (t : Bool) → isNameByte b ≡ t → isNameByte b ≡ false
+    go true e = absurd (omega (arith, z, byte-some b e, byte-least b e))
+    go false e = e
+
+pub byte-not-zero : (b : ℕ) → (byteIf b ≡ 0 → ⊥) → isNameByte b ≡ true
+byte-not-zero b z = go (isNameByte b) refl
+  where
+    go : (t : Bool) → isNameByte b ≡ t → isNameByte b ≡ true
+    go true e = e
+    go false e = absurd (z (byte-none b e))
 
 pub code-none : codeOf [] ≡ 0
 unfolding codeOf

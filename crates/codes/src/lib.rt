@@ -3,7 +3,26 @@ use refusal::NAME_LIMIT;
 ghost use mathlib.Core.Path.{_≡_};
 ghost use Prim.Native.Nat.{_≤_};
 ghost use lib.ListN.{length, take};
-ghost use Rattle.codes.specs.Code.Codes.{codeIf, placeOf};
+ghost use Rattle.codes.specs.Code.Codes.{byteIf, codeIf, placeOf};
+
+// A byte of a name as a number, 0 where it is none. Each test ends the search by itself, so that the compiler does not join them.
+fn name_byte(b: u8) -> u64
+    ensures { λ r. ⌜ r ≡ byteIf b ⌝ }
+{
+    if 97 <= b {
+        if 122 < b {
+            return 0;
+        }
+        return b as u64;
+    }
+    if 57 < b {
+        return 0;
+    }
+    if b < 48 {
+        return 0;
+    }
+    b as u64
+}
 
 // The bytes of a name as one number, the first the lowest; 0 where they are no name.
 pub fn name_code(f: &[u8]) -> u64
@@ -16,12 +35,11 @@ pub fn name_code(f: &[u8]) -> u64
     let mut i = f.len();
     while 0 < i {
         i -= 1;
-        let b = f[i];
-        if fields::is_name_byte(b) {
-            code = code * 256 + b as u64;
-        } else {
+        let d = name_byte(f[i]);
+        if d == 0 {
             return 0;
         }
+        code = code * 256 + d;
     }
     code
 }

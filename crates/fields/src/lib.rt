@@ -39,7 +39,7 @@ fn is_digit(b: u8) -> bool
     b <= 57
 }
 
-pub fn is_name_byte(b: u8) -> bool
+fn is_name_byte(b: u8) -> bool
     ensures { λ r. ⌜ r ≡ isNameByte b ⌝ }
 {
     if is_digit(b) {
