@@ -9,6 +9,7 @@ use task_set::Task;
 ghost use mathlib.Core.Path.{_≡_};
 ghost use Prim.Native.Nat.{_≤_};
 ghost use Rattle.refusal.specs.Limits.{lockLimit};
+ghost use Rattle.records.specs.Code.Cursor.{Within};
 ghost use Rattle.plan_file.specs.Code.Entries.{FineNames, NumbersOf, useAt, lockEntry};
 
 // How long a task holds the lock at the place j of its part; 0 where it does not use it.
@@ -33,13 +34,13 @@ pub fn ask_lock(
     held: Span,
     codes: &[u64],
 ) -> Entry
-    requires { ⌜ FineNames locks × (locks .count ≤ lockLimit) × NumbersOf (now s) locks (now codes) ⌝ }
+    requires { ⌜ FineNames locks × (locks .count ≤ lockLimit) × NumbersOf (now s) locks (now codes) × Within (now s) name × Within (now s) held ⌝ }
     ensures { λ r. ⌜ r ≡ lockEntry (now (s .entry)) line allowed last locks name held ⌝ }
 {
     if !allowed {
         return Entry::Refused(Refusal::Misplaced(line));
     }
-    let code = codes::name_code(stretch::bytes(s, name));
+    let code = codes::name_code(stretch::within(s, name));
     if code == 0 {
         return Entry::Refused(Refusal::BadName(line));
     }
@@ -47,7 +48,7 @@ pub fn ask_lock(
     if 1 <= use_at(last, j) {
         return Entry::Refused(Refusal::KnownName(line));
     }
-    match fields::read_number(stretch::bytes(s, held)) {
+    match fields::read_number(stretch::within(s, held)) {
         Number::Malformed => Entry::Refused(Refusal::BadNumber(line)),
         Number::Is(c) => {
             if last.cost < c {

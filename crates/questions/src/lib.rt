@@ -5,6 +5,7 @@ use records::Shape;
 use refusal::Refusal;
 ghost use mathlib.Core.Path.{_≡_};
 ghost use mathlib.Core.Bool.{_&&_};
+ghost use Rattle.records.specs.Code.Cursor.{FieldsWithin};
 ghost use Rattle.plan_file.specs.Code.Entries.{FineSeen, NumbersOf, endEntry, entryOf};
 
 fn ask_end(line: u64, allowed: bool) -> Entry
@@ -25,7 +26,7 @@ fn both(a: bool, b: bool) -> bool
 
 // Questions 3 to 9 of the record on a line. The numbers of the names of the last part's tasks and locks stand in `tasks` and `locks`.
 pub fn entry_at(s: &[u8], line: u64, seen: Seen, r: Shape, tasks: &[u64], locks: &[u64]) -> Entry
-    requires { ⌜ FineSeen seen × NumbersOf (now s) (seen .tasks) (now tasks) × NumbersOf (now s) (seen .locks) (now locks) ⌝ }
+    requires { ⌜ FineSeen seen × NumbersOf (now s) (seen .tasks) (now tasks) × NumbersOf (now s) (seen .locks) (now locks) × FieldsWithin (now s) r ⌝ }
     ensures { λ x. ⌜ x ≡ entryOf (now (s .entry)) line seen r ⌝ }
 {
     let open = !seen.ended;

@@ -3,7 +3,7 @@
 use Prim.Native.Nat.{ℕ, _+_, _<_, _≤_}
 use native.Mathlib.Numerals.{add-one}
 use native.Mathlib.Omega.{arith}
-use mathlib.Core.Path.{_≡_, sym, ap, _∙_}
+use mathlib.Core.Path.{_≡_, sym, ap, subst, _∙_}
 use mathlib.Core.Bool.{Bool, true, false}
 use mathlib.Core.List.{List}
 use lib.ListN.{length, getD}
@@ -16,9 +16,10 @@ use Rattle.scan.proofs.Lines.{theLine, theEnd, theTabs, scanned-good, lines-at,
 use Rattle.records.specs.declared.Shape.{Shape}
 use Rattle.records.specs.declared.Cursor.{Cursor}
 use Rattle.records.specs.Code.Shapes.{firstField, wordOf, shapeOf}
-use Rattle.records.specs.Code.Cursor.{recordAs, RecordIs, BrokenIs}
+use Rattle.records.specs.Code.Cursor.{recordAs, FieldsWithin, RecordIs, BrokenIs}
 use Rattle.records.proofs.Records.{record-line}
 use Rattle.records.proofs.Names.{name-stands}
+use Rattle.records.proofs.Within.{shape-within}
 
 module _ (s : List ℕ) (c : Cursor) (l : Scanned) (is : l ≡ lineAt s (c .at)) where
   good-of : {b : Bool} → l .good ≡ b → lineIsGood (theLine s (c .at)) ≡ b
@@ -28,7 +29,10 @@ module _ (s : List ℕ) (c : Cursor) (l : Scanned) (is : l ≡ lineAt s (c .at))
   good-known g = good-line s (c .at) (good-of g)
 
   pub tabs-within : l .good ≡ true → (j : ℕ) → getD (l .tabs .place) j 0 ≤ length s
-  tabs-within g j = rw is (good-known g .places j)
+  tabs-within g j = let h : getD (lineAt s (c .at) .tabs .place) j 0 ≤ length s = omega (arith, good-known g .places j) in rw is h
+
+  pub tabs-before : l .good ≡ true → (j : ℕ) → getD (l .tabs .place) j 0 < length s
+  tabs-before g j = rw is (good-known g .places j)
 
   scanned : l .good ≡ true → l ≡ goodAt (theEnd s (c .at)) (firstFive (theTabs s (c .at)))
   scanned g = is ∙ good-known g .scanned
@@ -47,6 +51,7 @@ module _ (s : List ℕ) (c : Cursor) (l : Scanned) (is : l ≡ lineAt s (c .at))
         numbered = add-one (c .line);
         behind = rw (scanned g) (omega arith);
         within = rw (scanned g) (omega (arith, good-known g .within));
+        fields = subst (FieldsWithin s) (sym e) (shape-within s l (tabs-before g) (end-within g) (wordOf (bytesOf s (firstField (c .at) l))));
       }
 
   pub broken-at : l .good ≡ false → c .at < length s → BrokenIs s c

@@ -198,7 +198,7 @@ impl Cursor {
         }
         let l = scan::line_at(s, at);
         if l.good {
-            let w = word_of(stretch::bytes(s, first_field(at, l)));
+            let w = word_of(stretch::within(s, first_field(at, l)));
             let shape = shape_of(w, l);
             return Next::Record(
                 shape,

@@ -86,7 +86,7 @@ module _ (s : List ℕ) (at : ℕ) where
   pub record GoodLine : Type 0 where
     pub scanned : lineAt s at ≡ goodAt theEnd (firstFive theTabs)
     pub within : theEnd < length s
-    pub places : (j : ℕ) → getD (lineAt s at .tabs .place) j 0 ≤ length s
+    pub places : (j : ℕ) → getD (lineAt s at .tabs .place) j 0 < length s
 
   pub good-line : lineIsGood theLine ≡ true → GoodLine
   unfolding lineAt lineIsGood

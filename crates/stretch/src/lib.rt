@@ -1,5 +1,7 @@
 // A stretch of the file, handed back as that part of the caller's own bytes.
 ghost use mathlib.Core.Path.{_≡_};
+ghost use Prim.Native.Nat.{_+_, _≤_};
+ghost use lib.ListN.{length};
 ghost use Rattle.stretch.specs.Stretch.{bytesOf, StretchOf};
 
 // A stretch of the file.
@@ -29,4 +31,14 @@ pub fn bytes(s: &[u8], p: Span) -> &[u8]
     ensures { λ r. ⌜ now r ≡ bytesOf (now (s .entry)) p ⌝ }
 {
     stretch_of(s, p)
+}
+
+// The bytes of a stretch that lies within the slice.
+pub fn within(s: &[u8], p: Span) -> &[u8]
+    requires { ⌜ p .start + p .len ≤ length (now s) ⌝ }
+    ensures { λ r. ⌜ now r ≡ bytesOf (now (s .entry)) p ⌝ }
+{
+    let start = p.start;
+    let n = p.len;
+    &s[start..start + n]
 }

@@ -8,18 +8,20 @@ use refusal::TASK_LIMIT;
 use stretch::Span;
 ghost use mathlib.Core.Path.{_≡_};
 ghost use Rattle.stretch.specs.Stretch.{bytesOf};
+ghost use Rattle.records.specs.Code.Cursor.{Within};
 ghost use Rattle.plan_file.specs.Code.Entries.{FineNames, NumbersOf, timesIn, taskEntry};
 
 fn read_times(s: &[u8], separation: Span, cost: Span, deadline: Span) -> Times
+    requires { ⌜ Within (now s) separation × Within (now s) cost × Within (now s) deadline ⌝ }
     ensures { λ r. ⌜ r ≡ timesIn (bytesOf (now (s .entry)) separation) (bytesOf (now (s .entry)) cost) (bytesOf (now (s .entry)) deadline) ⌝ }
 {
-    let Number::Is(t) = fields::read_number(stretch::bytes(s, separation)) else {
+    let Number::Is(t) = fields::read_number(stretch::within(s, separation)) else {
         return Times::Malformed;
     };
-    let Number::Is(c) = fields::read_number(stretch::bytes(s, cost)) else {
+    let Number::Is(c) = fields::read_number(stretch::within(s, cost)) else {
         return Times::Malformed;
     };
-    let Number::Is(d) = fields::read_number(stretch::bytes(s, deadline)) else {
+    let Number::Is(d) = fields::read_number(stretch::within(s, deadline)) else {
         return Times::Malformed;
     };
     Times::Are(t, c, d)
@@ -37,13 +39,13 @@ pub fn ask_task(
     deadline: Span,
     codes: &[u64],
 ) -> Entry
-    requires { ⌜ FineNames tasks × NumbersOf (now s) tasks (now codes) ⌝ }
+    requires { ⌜ FineNames tasks × NumbersOf (now s) tasks (now codes) × Within (now s) name × Within (now s) separation × Within (now s) cost × Within (now s) deadline ⌝ }
     ensures { λ r. ⌜ r ≡ taskEntry (now (s .entry)) line allowed tasks name separation cost deadline ⌝ }
 {
     if !allowed {
         return Entry::Refused(Refusal::Misplaced(line));
     }
-    let code = codes::name_code(stretch::bytes(s, name));
+    let code = codes::name_code(stretch::within(s, name));
     if code == 0 {
         return Entry::Refused(Refusal::BadName(line));
     }

@@ -20,7 +20,7 @@ abbrev start : tie.Else2 → tie.Start
 start c = c .before .before .before .before .before .before
 
 code-is : (c : tie.After-name-code) → let a = c .before .before .before .before .before .args in c .name-code .result ≡ codeIf (bytesOf (a .s .now) (a .name))
-code-is c = c .name-code .ensures ∙ ap codeIf (c .before .bytes .ensures)
+code-is c = c .name-code .ensures ∙ ap codeIf (c .before .within .ensures)
 
 named : (c : tie.Else2) → let a = start c .args in Named (a .allowed) (bytesOf (a .s .now) (a .name))
 named c = record { here = not-false (start c .args .allowed) (c .before .before .before .if1 .left); good = code-named _ (λ z. c .if2 .left (code-is (c .before) ∙ z)) }
@@ -47,8 +47,8 @@ returns c =
     let s = c .before .before .before in
     lock-misplaced _ _ _ _ _ _ _ (s .pre .0) (s .pre .1) _ refl (not-true (s .args .allowed) (c .if1 .taken))
 
-bytes-requires : tie.Need-bytes-requires
-bytes-requires c κs = search needs
+within-requires : tie.Need-within-requires
+within-requires c κs = c .before .before .before .pre .3
 
 name-code-requires : tie.Need-name-code-requires
 name-code-requires c κs = search needs
@@ -69,8 +69,8 @@ returns-3 c =
     let s = start (c .before .before .before) in
     lock-known _ _ _ _ _ _ _ (s .pre .0) (s .pre .1) _ (placed (c .before .before)) (named (c .before .before .before)) (rw (← c .before .use-at .ensures) (c .if3 .taken))
 
-bytes-requires-2 : tie.Need-bytes-requires-2
-bytes-requires-2 c κs = search needs
+within-requires-2 : tie.Need-within-requires-2
+within-requires-2 c κs = start (c .before .before .before) .pre .4
 
 read-number-requires : tie.Need-read-number-requires
 read-number-requires c κs = search needs
@@ -110,13 +110,13 @@ ask-lock-spec =
     tie.close
     (tie.spec
     returns
-    bytes-requires
+    within-requires
     name-code-requires
     returns-2
     place-of-requires
     use-at-requires
     returns-3
-    bytes-requires-2
+    within-requires-2
     read-number-requires
     enum-told
     enum-known-c

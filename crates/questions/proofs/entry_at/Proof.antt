@@ -21,7 +21,11 @@ both-requires-2 : tie.Need-both-requires-2
 both-requires-2 c κs = search needs
 
 ask-task-requires : tie.Need-ask-task-requires
-ask-task-requires c κs = search needs
+ask-task-requires c κs =
+    let r = c .before .before .before .before in
+    let s = r .before .before .before .before .before .before .before in
+    let f = rw (r .r2 .given .1) at (s .pre .3) in
+    (s .pre .0 .tasks, s .pre .1, f .0, f .1, f .2, f .3)
 
 enum-known-r-3 : tie.Need-enum-known-r-3
 enum-known-r-3 c = search needs
@@ -30,7 +34,11 @@ both-requires-3 : tie.Need-both-requires-3
 both-requires-3 c κs = search needs
 
 ask-lock-requires : tie.Need-ask-lock-requires
-ask-lock-requires c κs = search needs
+ask-lock-requires c κs =
+    let r = c .before .before .before .before .before in
+    let s = r .before .before .before .before .before .before .before in
+    let f = rw (r .r3 .given .1) at (s .pre .3) in
+    (s .pre .0 .locks, s .pre .0 .few-locks, s .pre .2, f .0, f .1)
 
 enum-told : tie.Need-enum-told
 enum-told c = search needs

@@ -194,7 +194,8 @@ slice-aggregate-entry-at-2 c = sym (c .before .before .before .before .before .b
 entry-at-requires : tie.Need-entry-at-requires Inv-loop μ-loop Inv-loop2 μ-loop2 Inv-loop3 μ-loop3
 entry-at-requires c κs =
     let l = c .before .before .before .before .before .before in
-    (reading-fine (file l) (l .loop .c) (seen l) (l .loop .«open») (l .loop .name) (l .loop .period) (l .loop .tasks) (l .loop .all) (l .loop .inv .0), l .loop .inv .1, l .loop .inv .2)
+    let h : RecordIs (file l) (l .loop .c) (c .before .before .before .shape .given .0 .0) (c .before .before .before .shape .given .0 .1 .0) = rw (c .before .before .before .shape .given .1) at (c .before .before .before .before .before .next .ensures) in
+    (reading-fine (file l) (l .loop .c) (seen l) (l .loop .«open») (l .loop .name) (l .loop .period) (l .loop .tasks) (l .loop .all) (l .loop .inv .0), l .loop .inv .1, l .loop .inv .2, h .fields)
 
 enum-known-r : tie.Need-enum-known-r Inv-loop μ-loop Inv-loop2 μ-loop2 Inv-loop3 μ-loop3
 enum-known-r c = search needs

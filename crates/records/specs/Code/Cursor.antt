@@ -26,6 +26,17 @@ recordAs s (Lock name c) = lock (bytesOf s name) (bytesOf s c)
 recordAs s End = end
 recordAs s Unknown = noRecord
 
+-- a stretch, and each field of a record, lies within the file
+abbrev pub Within : List ℕ → Span → Type 0
+Within s p = p .start + p .len ≤ length s
+
+abbrev pub FieldsWithin : List ℕ → Shape → Type 0
+FieldsWithin s (Part name P) = Within s name × Within s P
+FieldsWithin s (Task name T C D) = Within s name × Within s T × Within s C × Within s D
+FieldsWithin s (Lock name c) = Within s name × Within s c
+FieldsWithin s End = Unit {0}
+FieldsWithin s Unknown = Unit {0}
+
 -- a good line, its record, and the cursor at the line behind it
 pub record RecordIs (s : List ℕ) (c : Cursor) (r : Shape) (next : Cursor) : Type 0 where
   pub line : Line
@@ -36,6 +47,7 @@ pub record RecordIs (s : List ℕ) (c : Cursor) (r : Shape) (next : Cursor) : Ty
   pub numbered : next .line ≡ suc (c .line)
   pub behind : next .at ≡ c .at + suc (length (line .body))
   pub within : next .at ≤ length s
+  pub fields : FieldsWithin s r
 
 -- a line with a no to question 2
 pub record BrokenIs (s : List ℕ) (c : Cursor) : Type 0 where

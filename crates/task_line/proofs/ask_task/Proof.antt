@@ -20,7 +20,7 @@ abbrev start : tie.Else2 → tie.Start
 start c = c .before .before .before .before .before .before
 
 code-is : (c : tie.After-name-code) → let a = c .before .before .before .before .before .args in c .name-code .result ≡ codeIf (bytesOf (a .s .now) (a .name))
-code-is c = c .name-code .ensures ∙ ap codeIf (c .before .bytes .ensures)
+code-is c = c .name-code .ensures ∙ ap codeIf (c .before .within .ensures)
 
 named : (c : tie.Else2) → let a = start c .args in Named (a .allowed) (bytesOf (a .s .now) (a .name))
 named c = record { here = not-false (start c .args .allowed) (c .before .before .before .if1 .left); good = code-named _ (λ z. c .if2 .left (code-is (c .before) ∙ z)) }
@@ -45,8 +45,8 @@ times c = times-are _ _ _ _ _ _ (cc)
 returns : tie.Need-returns
 returns c = task-misplaced _ _ _ _ _ _ _ _ (c .before .before .before .pre .0) (not-true (c .before .before .before .args .allowed) (c .if1 .taken))
 
-bytes-requires : tie.Need-bytes-requires
-bytes-requires c κs = search needs
+within-requires : tie.Need-within-requires
+within-requires c κs = c .before .before .before .pre .2
 
 name-code-requires : tie.Need-name-code-requires
 name-code-requires c κs = search needs
@@ -63,7 +63,7 @@ returns-3 : tie.Need-returns-3
 returns-3 c = task-known _ _ _ _ _ _ _ _ (start (c .before .before) .pre .0) (named (c .before .before)) (rw (← placed (c .before)) (c .if3 .taken))
 
 read-times-requires : tie.Need-read-times-requires
-read-times-requires c κs = search needs
+read-times-requires c κs = let p = start (c .before .before) .pre in (p .3, p .4, p .5)
 
 enum-told : tie.Need-enum-told
 enum-told c = search needs
@@ -101,7 +101,7 @@ ask-task-spec =
     tie.close
     (tie.spec
     returns
-    bytes-requires
+    within-requires
     name-code-requires
     returns-2
     place-of-requires

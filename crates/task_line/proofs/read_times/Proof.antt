@@ -5,8 +5,8 @@ use borrow.Author.Needs.{needs}
 use Rattle.task_line.proofs.read_times.Statement.{statement}
 use Rattle.task_line.proofs.read_times.Tie as tie
 
-bytes-requires : tie.Need-bytes-requires
-bytes-requires c κs = search needs
+within-requires : tie.Need-within-requires
+within-requires c κs = search needs
 
 read-number-requires : tie.Need-read-number-requires
 read-number-requires c κs = search needs
@@ -20,8 +20,8 @@ enum-told c = search needs
 returns : tie.Need-returns
 returns c = separation-malformed _ _ _ (number-malformed _ (cc))
 
-bytes-requires-2 : tie.Need-bytes-requires-2
-bytes-requires-2 c κs = search needs
+within-requires-2 : tie.Need-within-requires-2
+within-requires-2 c κs = search needs
 
 read-number-requires-2 : tie.Need-read-number-requires-2
 read-number-requires-2 c κs = search needs
@@ -35,8 +35,8 @@ enum-told-2 c = search needs
 returns-2 : tie.Need-returns-2
 returns-2 c = cost-malformed _ _ _ (number-malformed _ (cc))
 
-bytes-requires-3 : tie.Need-bytes-requires-3
-bytes-requires-3 c κs = search needs
+within-requires-3 : tie.Need-within-requires-3
+within-requires-3 c κs = search needs
 
 read-number-requires-3 : tie.Need-read-number-requires-3
 read-number-requires-3 c κs = search needs
@@ -57,17 +57,17 @@ pub read-times-spec : {M : Type 1} → statement M
 read-times-spec =
     tie.close
     (tie.spec
-    bytes-requires
+    within-requires
     read-number-requires
     enum-known-t
     enum-told
     returns
-    bytes-requires-2
+    within-requires-2
     read-number-requires-2
     enum-known-c
     enum-told-2
     returns-2
-    bytes-requires-3
+    within-requires-3
     read-number-requires-3
     enum-known-d
     enum-told-3

@@ -2,7 +2,8 @@
 -- Assumes nothing.
 use native.Mathlib.Omega.{arith}
 use borrow.Author.Needs.{needs}
-use Rattle.records.proofs.Onward.{tabs-within, end-within, record-at, broken-at}
+use Rattle.records.proofs.Onward.{tabs-within, tabs-before, end-within, record-at, broken-at}
+use Rattle.records.proofs.Within.{first-within}
 use Rattle.records.proofs.Cursor.next.Statement.{statement}
 use Rattle.records.proofs.Cursor.next.Tie as tie
 
@@ -15,8 +16,13 @@ line-at-requires c κs = search needs
 first-field-requires : tie.Need-first-field-requires
 first-field-requires c κs = search needs
 
-bytes-requires : tie.Need-bytes-requires
-bytes-requires c κs = search needs
+within-requires : tie.Need-within-requires
+within-requires c κs =
+    let l = c .before .before in
+    let a = l .before .before .before .args in
+    let is = l .line-at .ensures in
+    let g = c .before .if2 .taken in
+    rw (c .first-field .ensures) (first-within (a .s .now) (l .line-at .result) (tabs-before (a .s .now) (a .self) (l .line-at .result) is g) (end-within (a .s .now) (a .self) (l .line-at .result) is g) (a .self .at) (l .before .if1 .left))
 
 word-of-requires : tie.Need-word-of-requires
 word-of-requires c κs = search needs
@@ -55,7 +61,7 @@ next-spec =
     returns
     line-at-requires
     first-field-requires
-    bytes-requires
+    within-requires
     word-of-requires
     shape-of-requires
     add-t12
