@@ -176,15 +176,8 @@ pub fn valid(random: &mut Random, sizes: &Sizes) -> Vec<u8> {
             })
             .collect();
         for (place, task) in tasks.iter().enumerate() {
-            let Task {
-                separation,
-                execution,
-                deadline,
-                ..
-            } = task;
-            let name = name(random, 't', place as u64);
-            file += &format!("task\t{name}\t{separation}\t{execution}\t{deadline}\n");
-            let most = longest_held.min(*execution);
+            file += &task_line(random, place, task);
+            let most = longest_held.min(task.execution);
             // Not always first mentioned in order.
             let first = random.index(8);
             for lock in 0..locks.len() {
@@ -202,6 +195,34 @@ pub fn valid(random: &mut Random, sizes: &Sizes) -> Vec<u8> {
     }
     file += "end\n";
     file.into_bytes()
+}
+
+/// The line of the task at this place.
+fn task_line(random: &mut Random, place: usize, task: &Task) -> String {
+    let name = name(random, 't', place as u64);
+    let numbers = [task.separation, task.execution, task.deadline].map(|number| number.to_string());
+    format!("task\t{name}\t{}\n", numbers.join("\t"))
+}
+
+/// Made-up files, each whole, damaged, with numbers near the limits, and with one more part that
+/// names its locks.
+pub fn made_up(random: &mut Random, rounds: usize) -> Vec<Vec<u8>> {
+    let sizes = [
+        Sizes::one_part(),
+        Sizes::two_parts(),
+        Sizes::three_parts(),
+        Sizes::full(),
+        Sizes::posters(),
+    ];
+    let mut files = Vec::new();
+    for round in 0..rounds {
+        let file = valid(random, &sizes[round % sizes.len()]);
+        files.push(damaged(random, &file));
+        files.push(extreme(random, &file));
+        files.push(named_elsewhere(random, &file));
+        files.push(file);
+    }
+    files
 }
 
 /// A readable plan file with as many parts, tasks and locks as there may be. Most locks are shared.
@@ -225,17 +246,10 @@ pub fn full_kiosk(random: &mut Random) -> Vec<u8> {
             })
             .collect();
         for (place, task) in kiosk_tasks(random, period, longest).iter().enumerate() {
-            let Task {
-                separation,
-                execution,
-                deadline,
-                ..
-            } = task;
-            let name = name(random, 't', place as u64);
-            file += &format!("task\t{name}\t{separation}\t{execution}\t{deadline}\n");
+            file += &task_line(random, place, task);
             for (name, user) in &locks {
                 if *user == place || random.once_in(task.lock_once_in) {
-                    let held = random.within(1..=*execution);
+                    let held = random.within(1..=task.execution);
                     file += &format!("lock\t{name}\t{held}\n");
                 }
             }

@@ -6,7 +6,7 @@ use std::env;
 
 use reference::edges::{self, BY_HAND, FIELDS, GOOD};
 use reference::file::LARGEST_NUMBER;
-use reference::random::{self, Random, Sizes};
+use reference::random::{self, Random};
 use reference::system::Row;
 use reference::{
     candidates, delivery, library, name, plan, programs, supply_answer, timing, weigh, Refusal,
@@ -94,27 +94,6 @@ fn rounds(number: usize) -> usize {
     number * times.unwrap_or(1)
 }
 
-/// Made-up files, each whole, damaged, with numbers near the limits, and with one more part that
-/// names its locks.
-fn made_up(random: &mut Random, rounds: usize) -> Vec<Vec<u8>> {
-    let sizes = [
-        Sizes::one_part(),
-        Sizes::two_parts(),
-        Sizes::three_parts(),
-        Sizes::full(),
-        Sizes::posters(),
-    ];
-    let mut files = Vec::new();
-    for round in 0..rounds {
-        let file = random::valid(random, &sizes[round % sizes.len()]);
-        files.push(random::damaged(random, &file));
-        files.push(random::extreme(random, &file));
-        files.push(random::named_elsewhere(random, &file));
-        files.push(file);
-    }
-    files
-}
-
 #[test]
 fn plans_of_the_cases_and_the_bench_files_and_the_examples() {
     for file in files() {
@@ -125,7 +104,7 @@ fn plans_of_the_cases_and_the_bench_files_and_the_examples() {
 #[test]
 fn plans_of_made_up_files() {
     let random = &mut Random::new(4);
-    let files = made_up(random, rounds(2000));
+    let files = random::made_up(random, rounds(2000));
     let planned = files
         .iter()
         .filter(|file| same_plan(file, PROGRAM_ROOM).is_ok());
@@ -138,7 +117,7 @@ fn plans_in_every_room() {
     for file in cases()
         .iter()
         .step_by(8)
-        .chain(&made_up(random, rounds(40)))
+        .chain(&random::made_up(random, rounds(40)))
     {
         same_in_every_room(file);
     }
@@ -155,7 +134,7 @@ fn candidates_of_the_cases_and_the_bench_files_and_the_examples() {
 #[test]
 fn candidates_of_made_up_files() {
     let random = &mut Random::new(2);
-    for file in made_up(random, rounds(400)) {
+    for file in random::made_up(random, rounds(400)) {
         same_candidates(random, &file);
     }
 }

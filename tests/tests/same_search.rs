@@ -4,7 +4,7 @@
 use std::collections::BTreeSet;
 
 use reference::file::{self, MOST_LOCKS, MOST_PARTS, MOST_TASKS};
-use reference::random::{self, full_kiosk, Random, Sizes};
+use reference::random::{self, full_kiosk, Random};
 use reference::{
     candidates, literal, local, number_and_place, plan, programs, same_search, timing, Refusal,
     PROGRAM_ROOM,
@@ -58,27 +58,6 @@ fn timed(name: &str) -> Vec<u8> {
     named.next().expect("a bench file").bytes
 }
 
-/// Made-up files, each whole, damaged, with numbers near the limits, and with one more part that
-/// names its locks.
-fn made_up(random: &mut Random, rounds: usize) -> Vec<Vec<u8>> {
-    let sizes = [
-        Sizes::one_part(),
-        Sizes::two_parts(),
-        Sizes::three_parts(),
-        Sizes::full(),
-        Sizes::posters(),
-    ];
-    let mut files = Vec::new();
-    for round in 0..rounds {
-        let file = random::valid(random, &sizes[round % sizes.len()]);
-        files.push(random::damaged(random, &file));
-        files.push(random::extreme(random, &file));
-        files.push(random::named_elsewhere(random, &file));
-        files.push(file);
-    }
-    files
-}
-
 #[test]
 fn plans_of_the_cases_and_the_bench_files_and_the_examples() {
     for file in files() {
@@ -90,7 +69,7 @@ fn plans_of_the_cases_and_the_bench_files_and_the_examples() {
 fn plans_of_made_up_files() {
     let random = &mut Random::new(8);
     let mut answers = [0; 15];
-    for file in made_up(random, 2000) {
+    for file in random::made_up(random, 2000) {
         let (number, _) = number_and_place(&same_plan(&file, PROGRAM_ROOM));
         answers[number as usize] += 1;
     }
@@ -104,7 +83,7 @@ fn plans_of_made_up_files() {
 fn plans_in_several_rooms() {
     let random = &mut Random::new(9);
     let mut planned = 0;
-    for file in made_up(random, 100) {
+    for file in random::made_up(random, 100) {
         if let Ok(length) = same_plan(&file, PROGRAM_ROOM) {
             planned += 1;
             for room in [0, length - 1, length, length + 1] {
@@ -129,7 +108,7 @@ fn candidates_of_the_cases_and_the_bench_files_and_the_examples() {
 #[test]
 fn candidates_of_made_up_files() {
     let random = &mut Random::new(10);
-    for file in made_up(random, 400) {
+    for file in random::made_up(random, 400) {
         same_candidates(&file);
     }
 }
@@ -208,7 +187,7 @@ fn kept_and_tasks(file: &[u8]) -> Vec<(usize, usize)> {
 #[test]
 fn m113_no_part_has_more_kept_pairs_than_tasks() {
     let random = &mut Random::new(11);
-    let mut made_up = made_up(random, 2000);
+    let mut made_up = random::made_up(random, 2000);
     made_up.extend((0..100).map(|_| full_kiosk(random)));
     let (mut parts, mut reached) = (0, 0);
     for file in files().iter().chain(&made_up) {
