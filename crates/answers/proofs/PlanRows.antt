@@ -37,7 +37,7 @@ use Rattle.plan_file.specs.Numbers.{PlanPart, partsOf, noPlanPart, partAt}
 use Rattle.listing.specs.Listing.{shareUnder}
 use Rattle.answers.specs.Parts.{keptRows, shareOf, sharesOf}
 use Rattle.answers.specs.Plan.{Plan, partitions, offered, leastRows, chosenRows, planWith, chosenPlan, planFile, planText}
-use Rattle.answers.specs.Answers.{listedIn, planOf}
+use Rattle.answers.specs.Answers.{inRoom, listedIn, planOf}
 use Rattle.answers.specs.Choice.{Chosen, FromKept, PassingChoice, BuiltFromKept}
 use Rattle.answers.proofs.KeptRows.{none-kept, some-kept, keptRows-sorted, choices-kept, passing-under}
 
@@ -135,7 +135,7 @@ module _ (vs : List Partition) where
       go true e true f = record { passing = f; are = answer-same-value (sym a ∙ rows-chosen e f) }
 
 pub listed-or-14 : (plan : Plan) (room : ℕ) → listedIn room plan ≡ cond (leb (length (planText plan)) room) (answered (planText plan)) (refused NoRoom)
-unfolding listedIn whenDone firstNo
+unfolding inRoom whenDone firstNo
 listed-or-14 plan room = go (leb (length (planText plan)) room)
   where
     go : (b : Bool) → whenDone (cond b Done (Refused NoRoom)) (answered (planText plan)) ≡ cond b (answered (planText plan)) (refused NoRoom)

@@ -1,14 +1,16 @@
--- The answers of the five operations, for every list of bytes and all numbers (weighing: `weighOf` of the crate load).
+-- The answers of the six operations, for every list of bytes and all numbers (weighing: `weighOf` of the crate load).
 --   planOf s room      == the listing of the file s, or the refusal of the first no among 1 to 11, then 14
+--   chartOf s room     == the chart of the file s, or the refusal of the first no among 1 to 11, then 19, then 14
 --   candidatesOf s k   == the kept pairs of part k, or the first no among 1 to 9, 12 and 10 for that part alone
 --   nameOf s k         == the name of part k, or the first no among 1 to 9 and 12
 --   supplyAnswer P Q t == the supply of (P,Q) in t ticks, or 12
---   listedIn room plan == the listing of a plan, or 14
+--   inRoom room bytes  == these bytes, or 14 if they do not fit so many lent ones
+--   listedIn room plan, chartedIn room plan == the listing and the chart of a plan, or 14
 --   candidateQuestions, nameQuestions, supplyQuestions == what each of them asks, in this order, behind questions 1 to 9
 --   planned a, candidateList a, nameBytes a, supplied a == such an answer as the operation hands it over: a refusal has zeros everywhere else
---   bufferAfter a out  == the lent bytes after a plan: the listing and, after it, what was there; all as it was on refusal
+--   bufferAfter a out  == the lent bytes after a plan or a chart: its bytes and, after them, what was there; all as it was on refusal
 --   HandedOver a before r after == r is the result and `after` the lent bytes once the answer a is handed over; `before` are the lent bytes before that
---   PlanAnswered s before r after == what `plan` promises, for every file s and all lent bytes
+--   PlanAnswered s before r after, ChartAnswered s before r after == what `plan` and `chart` promise, for every file s and all lent bytes
 -- Assumes nothing.
 use Prim.Native.Nat.{ℕ}
 use mathlib.Core.Path.{_≡_}
@@ -26,17 +28,27 @@ use Rattle.supply.specs.Supply.{supplyOf}
 use Rattle.candidates.specs.declared.Pair.{Pair}
 use Rattle.candidates.specs.Candidates.{keptList, keptAnswer}
 use Rattle.plan_file.specs.Numbers.{PlanPart, partsOf, partAt}
+use Rattle.layout.specs.Layout.{chart}
 use Rattle.answers.specs.declared.Planned.{Planned}
 use Rattle.answers.specs.declared.CandidateList.{CandidateList}
 use Rattle.answers.specs.declared.Supplied.{Supplied}
-use Rattle.answers.specs.Plan.{Plan, planFile, planText}
+use Rattle.answers.specs.Plan.{Plan, planFile, planText, cyclePlan}
 
 -- question 14
-unfoldable pub listedIn : ℕ → Plan → Answer (List ℕ)
-listedIn room plan = whenDone (firstNo (ask NoRoom (leb (length (planText plan)) room) ∷ [])) (answered (planText plan))
+unfoldable pub inRoom : ℕ → List ℕ → Answer (List ℕ)
+inRoom room bytes = whenDone (firstNo (ask NoRoom (leb (length bytes) room) ∷ [])) (answered bytes)
+
+abbrev pub listedIn : ℕ → Plan → Answer (List ℕ)
+listedIn room plan = inRoom room (planText plan)
 
 unfoldable pub planOf : List ℕ → ℕ → Answer (List ℕ)
 planOf s room = whenAnswered (planFile s) (listedIn room)
+
+abbrev pub chartedIn : ℕ → Plan → Answer (List ℕ)
+chartedIn room plan = inRoom room (chart (plan .rows))
+
+unfoldable pub chartOf : List ℕ → ℕ → Answer (List ℕ)
+chartOf s room = whenAnswered (cyclePlan s) (chartedIn room)
 
 -- question 12 for a part number
 abbrev pub isPartNumber : ℕ → List PlanPart → Bool
@@ -84,6 +96,9 @@ pub record HandedOver (a : Answer (List ℕ)) (before : List ℕ) (r : Planned) 
 
 abbrev pub PlanAnswered : List ℕ → List ℕ → Planned → List ℕ → Type 0
 PlanAnswered s before r after = HandedOver (planOf s (length before)) before r after
+
+abbrev pub ChartAnswered : List ℕ → List ℕ → Planned → List ℕ → Type 0
+ChartAnswered s before r after = HandedOver (chartOf s (length before)) before r after
 
 unfoldable pub candidateList : Answer (List Pair) → CandidateList
 candidateList (answered kept) = record { outcome = Done; kept = keptAnswer kept }

@@ -8,14 +8,21 @@
 --   chosenPlan ps == the plan of these parts, or that refusal
 --   planFile s    == the plan of the file s, or the refusal of the first no among questions 1 to 11
 --   planText plan == its listing
+--   cycleQuestions rows == question 19 of the rows of a plan, at the first whose period does not divide 720
+--   inCyclePlan plan == the plan, or that refusal
+--   cyclePlan s   == the plan of the file s, if all its periods divide 720, or the refusal of the first no among questions 1 to 11, then 19
 -- Assumes nothing.
 use Prim.Native.Nat.{ℕ}
-use mathlib.Core.List.{List, map}
-use Rattle.refusal.specs.Questions.{firstNo, Answer, whenAnswered, whenDone}
+use mathlib.Core.Bool.{not}
+use mathlib.Core.List.{List, [], _∷_, map}
+use Rattle.least.specs.Lists.{every, firstOf}
+use Rattle.refusal.specs.declared.Refusal.the-variants.{OutOfCycle}
+use Rattle.refusal.specs.Questions.{Question, ask, firstNo, Answer, whenAnswered, whenDone}
 use Rattle.refusal.specs.Questions.Answer.{answered}
 use Rattle.task_set.specs.Partition.{Partition}
 use Rattle.load.specs.declared.Row.{Row}
 use Rattle.load.specs.Load.{boundsOf}
+use Rattle.layout.specs.Layout.{inCycle}
 use Rattle.selection.specs.Selection.{choices, leastLoaded}
 use Rattle.selection.specs.Questions.{choiceQuestions}
 use Rattle.plan_file.specs.Numbers.{PlanPart, partsOf}
@@ -49,3 +56,12 @@ planFile s = whenAnswered (partsOf s) chosenPlan
 
 unfoldable pub planText : Plan → List ℕ
 planText plan = listingOf (sharesOf (plan .parts) (plan .rows) (boundsOf (plan .rows)))
+
+abbrev pub cycleQuestions : List Row → List Question
+cycleQuestions rows = ask (OutOfCycle (firstOf (λ r. not (inCycle r)) rows)) (every inCycle rows) ∷ []
+
+unfoldable pub inCyclePlan : Plan → Answer Plan
+inCyclePlan plan = whenDone (firstNo (cycleQuestions (plan .rows))) (answered plan)
+
+unfoldable pub cyclePlan : List ℕ → Answer Plan
+cyclePlan s = whenAnswered (planFile s) inCyclePlan

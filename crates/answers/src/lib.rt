@@ -2,7 +2,7 @@
 use candidates::Kept;
 use refusal::Outcome;
 
-// What a plan answers: how many bytes it wrote.
+// What a plan and a chart answer: how many bytes they wrote.
 pub struct Planned {
     pub outcome: Outcome,
     pub written: usize,

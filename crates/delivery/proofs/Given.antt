@@ -1,9 +1,9 @@
--- Laws of given ticks: windows one behind another, a window inside another one, and whole periods.
+-- Laws of given ticks: windows one behind another, a window inside another one, two assignments in one window, and whole periods.
 -- Assumes nothing.
-use Prim.Native.Nat.{ℕ, zero, suc, _+_, _-_, _*_, _≤_}
+use Prim.Native.Nat.{ℕ, zero, suc, _+_, _-_, _*_, _≤_, _<_}
 use native.Mathlib.Nat.{suc-add, add-suc, add-zero, zero-add, suc-mul, zero-mul}
 use native.Mathlib.Omega.{arith}
-use mathlib.Core.Path.{_≡_, refl, ap, _∙_}
+use mathlib.Core.Path.{_≡_, refl, sym, ap, _∙_}
 use mathlib.Core.Bool.{Bool, true, false, cond}
 use mathlib.Core.List.{_∷_}
 use lib.ListN.{length}
@@ -15,7 +15,7 @@ use Rattle.delivery.specs.Assignment.{Assignment, given, Delivers}
 abbrev pub tick : Bool → ℕ
 tick b = cond b 1 0
 
-tick-le : (b : Bool) → tick b ≤ 1
+pub tick-le : (b : Bool) → tick b ≤ 1
 tick-le true = omega arith
 tick-le false = omega arith
 
@@ -32,7 +32,7 @@ module _ (A : Assignment) where
       go true e = rw (those-pass A s (countFrom (suc s) t) e) (omega arith)
       go false e = rw (those-fail A s (countFrom (suc s) t) e) (omega arith)
 
-  given-le : (s t : ℕ) → given A s t ≤ t
+  pub given-le : (s t : ℕ) → given A s t ≤ t
   given-le s zero = omega (arith, given-none s)
   given-le s (suc t) = omega (arith, given-first s t, tick-le (A s), given-le (suc s) t)
 
@@ -69,6 +69,29 @@ module _ (A : Assignment) where
 
     pub missed-inside : given A s t + u ≤ given A y u + t
     missed-inside = omega (arith, given-window y u, given-window s t, missed-mono s y a, missed-mono (y + u) (s + t) b)
+
+  -- a window that is given whole is given whole from its start on
+  pub given-whole : (s t u : ℕ) → t ≤ u → given A s u ≡ u → given A s t ≡ t
+  given-whole s t u h w = omega (arith, missed-inside s u s t (omega arith) (omega arith), given-le s t)
+
+  pub given-never : ((y : ℕ) → tick (A y) ≡ 0) → (s t : ℕ) → given A s t ≡ 0
+  given-never h s zero = given-none s
+  given-never h s (suc t) = omega (arith, given-first s t, h s, given-never h (suc s) t)
+
+module _ (A B : Assignment) where
+  -- only the ticks of the window count
+  pub given-same-in : (s t : ℕ) → ((y : ℕ) → s ≤ y → y < s + t → A y ≡ B y) → given A s t ≡ given B s t
+  given-same-in s zero h = given-none A s ∙ sym (given-none B s)
+  given-same-in s (suc t) h =
+      omega (arith, given-first A s t, given-first B s t, ap tick (h s (omega arith) (omega arith)), given-same-in (suc s) t (λ y l m. h y (omega arith) (omega arith)))
+
+  pub given-same : ((y : ℕ) → A y ≡ B y) → (s t : ℕ) → given A s t ≡ given B s t
+  given-same h s t = given-same-in s t (λ y l m. h y)
+
+  -- ticks that one or the other of two has, never both
+  pub given-both : (C : Assignment) → ((y : ℕ) → tick (C y) ≡ tick (A y) + tick (B y)) → (s t : ℕ) → given C s t ≡ given A s t + given B s t
+  given-both C h s zero = omega (arith, given-none A s, given-none B s, given-none C s)
+  given-both C h s (suc t) = omega (arith, given-first A s t, given-first B s t, given-first C s t, h s, given-both C h (suc s) t)
 
 -- the first n periods
 pub given-periods : (P Q : ℕ) (A : Assignment) → Delivers P Q A → (n : ℕ) → given A 0 (n * P) ≡ n * Q

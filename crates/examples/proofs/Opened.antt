@@ -27,11 +27,11 @@ use Rattle.plan_file.specs.Numbers.{heldUnder, taskIn, tasksIn, isSharedIn, num
 use Rattle.listing.specs.Listing.{ceilingsUnder, shareUnder, ceilingLine, shareLine, shareLines, loadLine, loadShare, listingOf, refusedLine}
 use Rattle.answers.specs.Parts.{keptRows}
 use Rattle.answers.specs.Plan.{chosenRows, chosenPlan, planFile, planText}
-use Rattle.answers.specs.Answers.{listedIn, planOf, candidatesOf, nameOf, supplyAnswer, planned, bufferAfter, candidateList, nameBytes, supplied}
+use Rattle.answers.specs.Answers.{inRoom, planOf, candidatesOf, nameOf, supplyAnswer, planned, bufferAfter, candidateList, nameBytes, supplied}
 use Rattle.console.specs.Printed.{printedText, printedOf}
 use Rattle.examples.specs.Files.{fileA, listingA, cardAt, listingC, listingD, fileFWith, fileF, fileFOneNamed, fileFAlone, filePrivate, fileBlocked, listingPrivate, onePart, listingI, everyTicks, listingL, refusalLine, fileTop, listingTop, fileSecond, listingSecond}
 use Rattle.examples.specs.Table.{partsIn, isOn}
 
 unfoldable pub opened : Unit {0}
-unfolding ceilDiv leastFrom anyFrom numberOr0 sum greatest smallest countFrom range isEmpty nthOr every some those joined numbersFrom firstFrom lastOr onLast pad everyBehind behind zip3 lesser greater leastOver greatestOf bytes same among mention distinctAfter intoLine linesOf intoField fieldsOf lineOf isDigit valueAfter digitsWithin digitsOf firstNo outcomeOf whenAnswered whenDone roundOf supplyAt supplyOf heldFor demandIn lowestCeiling greatestHeld smallestDeadline isShared blockedBy blockingOf needOf held holdingOf highestCeiling inRange exists permitted holdingTimeOf taskPasses passes leastBudget settingsTo candidateOf candidatesIn isKept insertByX inFallingX keptAmong keptList keptAnswer shownCeiling demandOf loadAt rowPasses passesSystem ratio boundOf boundsOf loadOf loadRow rowInRange weighQuestions weighed weighOf choices lighter leastLoaded choiceQuestions isAllowed lineIsGood isNameByte isName leadingZero isNumber recordOf lockMentions lockNames partsAfter isPart isEnd allowedHere partQuestions taskQuestions lockQuestions recordQuestions questionsAt readLines readFrom heldUnder taskIn tasksIn isSharedIn numbered ceilingsUnder shareUnder ceilingLine shareLine shareLines loadLine loadShare listingOf refusedLine keptRows chosenRows chosenPlan planFile planText listedIn planOf candidatesOf nameOf supplyAnswer planned bufferAfter candidateList nameBytes supplied printedText printedOf fileA listingA cardAt listingC listingD fileFWith fileF fileFOneNamed fileFAlone filePrivate fileBlocked listingPrivate onePart listingI everyTicks listingL refusalLine fileTop listingTop fileSecond listingSecond partsIn isOn
+unfolding ceilDiv leastFrom anyFrom numberOr0 sum greatest smallest countFrom range isEmpty nthOr every some those joined numbersFrom firstFrom lastOr onLast pad everyBehind behind zip3 lesser greater leastOver greatestOf bytes same among mention distinctAfter intoLine linesOf intoField fieldsOf lineOf isDigit valueAfter digitsWithin digitsOf firstNo outcomeOf whenAnswered whenDone roundOf supplyAt supplyOf heldFor demandIn lowestCeiling greatestHeld smallestDeadline isShared blockedBy blockingOf needOf held holdingOf highestCeiling inRange exists permitted holdingTimeOf taskPasses passes leastBudget settingsTo candidateOf candidatesIn isKept insertByX inFallingX keptAmong keptList keptAnswer shownCeiling demandOf loadAt rowPasses passesSystem ratio boundOf boundsOf loadOf loadRow rowInRange weighQuestions weighed weighOf choices lighter leastLoaded choiceQuestions isAllowed lineIsGood isNameByte isName leadingZero isNumber recordOf lockMentions lockNames partsAfter isPart isEnd allowedHere partQuestions taskQuestions lockQuestions recordQuestions questionsAt readLines readFrom heldUnder taskIn tasksIn isSharedIn numbered ceilingsUnder shareUnder ceilingLine shareLine shareLines loadLine loadShare listingOf refusedLine keptRows chosenRows chosenPlan planFile planText inRoom planOf candidatesOf nameOf supplyAnswer planned bufferAfter candidateList nameBytes supplied printedText printedOf fileA listingA cardAt listingC listingD fileFWith fileF fileFOneNamed fileFAlone filePrivate fileBlocked listingPrivate onePart listingI everyTicks listingL refusalLine fileTop listingTop fileSecond listingSecond partsIn isOn
 opened = tt

@@ -33,7 +33,7 @@ use Rattle.selection.specs.Questions.{choiceQuestions}
 use Rattle.plan_file.specs.Numbers.{PlanPart, partAt, partsOf}
 use Rattle.plan_file.proofs.Reading.{read-refused-iff, parts-refused-iff, parts-answered-iff}
 use Rattle.plan_file.proofs.Refusals.{read-refused-of-file}
-use Rattle.answers.specs.Answers.{planOf, isPartNumber, candidatesOf, nameOf, supplyAnswer, supplied, listedIn, keptAt}
+use Rattle.answers.specs.Answers.{planOf, isPartNumber, candidatesOf, nameOf, supplyAnswer, supplied, inRoom, listedIn, keptAt}
 use Rattle.answers.specs.Choice.{WithoutBudget}
 use Rattle.answers.specs.Plan.{partitions, offered, chosenRows, chosenPlan, planFile}
 use Rattle.answers.proofs.PlanRows.{everyKept, keptChoices, text, plan-unread, refused-10, refused-11, planned-or-14}
@@ -256,7 +256,7 @@ done-before (q ∷ qs) more e = go (q .yes) refl (done-before qs more)
 
 module _ (s : List ℕ) (room : ℕ) where
   at-once : (ps : List PlanPart) → whenAnswered (chosenPlan ps) (listedIn room) ≡ whenDone (firstNo (planQuestions room ps)) (answered (text ps))
-  unfolding chosenPlan chosenRows listedIn whenAnswered whenDone
+  unfolding chosenPlan chosenRows inRoom whenAnswered whenDone
   at-once ps = go (firstNo (choiceQuestions (offered (partitions ps)))) refl
     where
       more : List Question

@@ -4,6 +4,7 @@
 --   partLimit, taskLimit, lockLimit == parts in a file, tasks in a part, different lock names in a part
 --   rowLimit    == rows to be weighed
 --   nameLimit   == bytes in a name
+--   cycle       == the ticks of a cycle, of which a chart has a byte each and which the periods of its parts divide (major cycle, hyperperiod)
 -- And one about which no question asks, as every part keeps it:
 --   keptLimit   == pairs in the kept list of a part: it has no more than the part has tasks
 -- Assumes nothing.
@@ -29,6 +30,9 @@ rowLimit = 16
 
 abbrev pub nameLimit : ℕ
 nameLimit = 8
+
+abbrev pub cycle : ℕ
+cycle = 720
 
 abbrev pub keptLimit : ℕ
 keptLimit = taskLimit

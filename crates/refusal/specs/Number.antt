@@ -1,4 +1,4 @@
--- The number and the place of every answer, as paper 01 counts them. On success both are zero.
+-- The number and the place of every answer, as the papers count them. On success both are zero.
 --   refusalNumber r == the number of the question that has the answer no
 --   refusalPlace r  == its place: a line, a part or a row, counted from 1, or 0
 --   numberOf o, placeOf o == the same of an outcome
@@ -7,7 +7,7 @@
 use Prim.Native.Nat.{ℕ}
 use mathlib.Core.Bool.{Bool, true, false}
 use Rattle.refusal.specs.declared.Refusal.{Refusal}
-use Rattle.refusal.specs.declared.Refusal.the-variants.{FileTooLong, BadLine, BadRecord, Misplaced, BadName, KnownName, BadNumber, BadOrder, TooMany, NoBudget, NoChoice, BadHandSet, NoTime, NoRoom}
+use Rattle.refusal.specs.declared.Refusal.the-variants.{FileTooLong, BadLine, BadRecord, Misplaced, BadName, KnownName, BadNumber, BadOrder, TooMany, NoBudget, NoChoice, BadHandSet, NoTime, NoRoom, OutOfCycle}
 use Rattle.refusal.specs.declared.Outcome.{Outcome}
 use Rattle.refusal.specs.declared.Outcome.the-variants.{Done, Refused}
 
@@ -26,6 +26,7 @@ refusalNumber NoChoice = 11
 refusalNumber (BadHandSet place) = 12
 refusalNumber (NoTime row) = 13
 refusalNumber NoRoom = 14
+refusalNumber (OutOfCycle part) = 19
 
 abbrev pub refusalPlace : Refusal → ℕ
 refusalPlace FileTooLong = 0
@@ -42,6 +43,7 @@ refusalPlace NoChoice = 0
 refusalPlace (BadHandSet place) = place
 refusalPlace (NoTime row) = row
 refusalPlace NoRoom = 0
+refusalPlace (OutOfCycle part) = part
 
 abbrev pub numberOf : Outcome → ℕ
 numberOf Done = 0
@@ -66,3 +68,4 @@ isOfTheFile NoChoice = false
 isOfTheFile (BadHandSet place) = false
 isOfTheFile (NoTime row) = false
 isOfTheFile NoRoom = false
+isOfTheFile (OutOfCycle part) = false

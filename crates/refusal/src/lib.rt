@@ -1,4 +1,4 @@
-// What an operation answers besides its numbers: done, or one of the fourteen refusals with its place.
+// What an operation answers besides its numbers: done, or one of the fifteen refusals with its place.
 ghost use mathlib.Core.Path.{_≡_};
 ghost use Rattle.refusal.specs.Number.{refusalNumber, refusalPlace, numberOf, placeOf};
 
@@ -7,6 +7,9 @@ pub const NUMBER_LIMIT: u64 = 1000000;
 
 // The greatest length of a file in bytes.
 pub const FILE_LIMIT: usize = 32768;
+
+// The ticks of a cycle, of which a chart has a byte each.
+pub const CYCLE: usize = 720;
 
 // Parts in a file, tasks in a part, different lock names in a part.
 pub const PART_LIMIT: usize = 16;
@@ -59,8 +62,10 @@ pub enum Refusal {
     BadHandSet(u64),
     // 13. Has every weighed row a time t?
     NoTime(u64),
-    // 14. Does the listing fit the lent bytes?
+    // 14. Does the listing, or the chart, fit the lent bytes?
     NoRoom,
+    // 19. Does each part's period divide the 720 ticks of a cycle?
+    OutOfCycle(u64),
 }
 
 pub enum Outcome {
@@ -86,6 +91,7 @@ fn refusal_number(r: Refusal) -> u64
         Refusal::BadHandSet(_) => 12,
         Refusal::NoTime(_) => 13,
         Refusal::NoRoom => 14,
+        Refusal::OutOfCycle(_) => 19,
     }
 }
 
@@ -107,6 +113,7 @@ fn refusal_place(r: Refusal) -> u64
         Refusal::BadHandSet(place) => place,
         Refusal::NoTime(row) => row,
         Refusal::NoRoom => 0,
+        Refusal::OutOfCycle(part) => part,
     }
 }
 

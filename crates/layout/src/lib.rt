@@ -1,0 +1,1 @@
+// The layout of ticks: which part has which tick of a cycle.
