@@ -5,3 +5,4 @@ pub mod Clean
 pub mod Served
 pub mod Chart
 pub mod Alike
+pub mod Words
