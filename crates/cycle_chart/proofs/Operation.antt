@@ -39,7 +39,8 @@ use Rattle.cycle_chart.specs.CycleChart.{InCycle, Charted}
 use Rattle.cycle_chart.proofs.Sentences.{in-cycle-every, every-in-cycle}
 
 -- what is answered was answered at each step
-when-answered : {A B : Type 0} (a : Answer A) (next : A → Answer B) (b : B) → whenAnswered a next ≡ answered b → (x : A) × (a ≡ answered x) × (next x ≡ answered b)
+when-answered : {A B : Type 0} (a : Answer A) (next : A → Answer B) (b : B) → whenAnswered a next ≡ answered b
+    → (x : A) × (a ≡ answered x) × (next x ≡ answered b)
 unfolding whenAnswered
 when-answered (answered x) next b e = (x, refl, e)
 when-answered (refused r) next b e = absurd (answered-not-refused (sym e))
@@ -69,7 +70,7 @@ module _ (s : List ℕ) (plan : Plan) (e : planFile s ≡ answered plan) where
       let c = rows-answered (partitions (f .0)) (g .0) (g .1) in
       let ps : f .0 ≡ plan .parts = ap (λ (p : Plan). p .parts) is in
       let rs : leastRows (partitions (f .0)) ≡ plan .rows = sym (c .are) ∙ ap (λ (p : Plan). p .rows) is in
-      let k : Each FromKept (partitions (f .0)) (plan .rows) = subst (Each FromKept (partitions (f .0))) rs (leastRows-kept (partitions (f .0)) (c .passing)) in
+      let k = subst (Each FromKept (partitions (f .0))) rs (leastRows-kept (partitions (f .0)) (c .passing)) in
       record {
         read = f .1 ∙ ap answered ps;
         kept = subst (λ (qs : List PlanPart). Each FromKept (partitions qs) (plan .rows)) ps k;
@@ -82,9 +83,11 @@ module _ (s : List ℕ) (plan : Plan) (e : planFile s ≡ answered plan) where
   same-period : (k : ℕ) → 1 ≤ k → k ≤ length (plan .rows) → rowAt (plan .rows) k .period ≡ partAt (plan .parts) k .numbers .period
   same-period zero l h = absurd (omega arith)
   same-period (suc k) l h =
-      let v : nthOr (noPlanPart .numbers) (suc k) (partitions (plan .parts)) ≡ partAt (plan .parts) (suc k) .numbers = nth-of-map (λ (p : PlanPart). p .numbers) noPlanPart (suc k) (plan .parts) in
+      let v = nth-of-map (λ (p : PlanPart). p .numbers) noPlanPart (suc k) (plan .parts) in
       let f = each-get (noPlanPart .numbers) (row 0 0 0) k (plan-rows .kept) (omega (arith, length-equal (plan-rows .kept))) in
-      ap (λ (r : Row). r .period) (nth-get (row 0 0 0) k (plan .rows)) ∙ f .period ∙ ap (λ (w : Partition). w .period) (sym (nth-get _ k (partitions (plan .parts))) ∙ v)
+      ap (λ (r : Row). r .period) (nth-get (row 0 0 0) k (plan .rows))
+      ∙ f .period
+      ∙ ap (λ (w : Partition). w .period) (sym (nth-get _ k (partitions (plan .parts))) ∙ v)
 
 -- in which case there is a chart
 record ChartMade (s : List ℕ) (room : ℕ) (bytes : List ℕ) : Type 0 where
@@ -110,7 +113,8 @@ chart-made s room bytes e =
       is-chart = sym (w .1) ∙ same;
     }
 
-made-chart : (s : List ℕ) (room : ℕ) (plan : Plan) → planFile s ≡ answered plan → InCycle (plan .rows) → cycle ≤ room → chartOf s room ≡ answered (chart (plan .rows))
+made-chart : (s : List ℕ) (room : ℕ) (plan : Plan) → planFile s ≡ answered plan → InCycle (plan .rows) → cycle ≤ room
+    → chartOf s room ≡ answered (chart (plan .rows))
 unfolding chartOf cyclePlan inCyclePlan inRoom whenAnswered
 made-chart s room plan e c h =
     ap (λ (a : Answer Plan). whenAnswered (whenAnswered a inCyclePlan) (chartedIn room)) e
@@ -144,7 +148,8 @@ module _ (rows : List Row) (before after : List ℕ) (e : after ≡ bufferAfter 
 
   lent-many : cycle ≤ length before → length after ≡ length before
   lent-many h =
-      omega (arith, ap (λ (l : List ℕ). length l) lent, length-append (chart rows) (drop (length (chart rows)) before), length-drop (length (chart rows)) before, chart-length rows)
+      let n = chart-length rows in
+      omega (arith, ap length lent, length-append (chart rows) (drop (length (chart rows)) before), length-drop (length (chart rows)) before)
 
 module _ (s before : List ℕ) (r : Planned) (after : List ℕ) (a : ChartAnswered s before r after) where
   made : r .outcome ≡ Done → (text : List ℕ) × (chartOf s (length before) ≡ answered text)
@@ -154,7 +159,9 @@ module _ (s before : List ℕ) (r : Planned) (after : List ℕ) (a : ChartAnswer
   Chartable = (plan : Plan) × (planFile s ≡ answered plan) × InCycle (plan .rows) × (cycle ≤ length before)
 
   pub charted-if : r .outcome ≡ Done → Chartable
-  charted-if d = let t = made d in let m = chart-made s (length before) (t .0) (t .1) in (m .plan, m .is-plan, every-in-cycle (m .plan .rows) (m .cycles), m .room-for)
+  charted-if d =
+      let m = chart-made s (length before) (made d .0) (made d .1) in
+      (m .plan, m .is-plan, every-in-cycle (m .plan .rows) (m .cycles), m .room-for)
 
   pub if-charted : Chartable → r .outcome ≡ Done
   if-charted c =
@@ -171,7 +178,9 @@ module _ (s before : List ℕ) (r : Planned) (after : List ℕ) (a : ChartAnswer
           let is : chartOf s (length before) ≡ answered (chart rows) = made d .1 ∙ ap answered (m .is-chart) in
           let lies : after ≡ bufferAfter (answered (chart rows)) before = a .bytes ∙ ap (λ (x : Answer (List ℕ)). bufferAfter x before) is in
           let p = plan-rows s (m .plan) (m .is-plan) in
+          let n = ap (λ (x : Answer (List ℕ)). planned x .written) is ∙ answered-written (chart rows) ∙ chart-length rows in
           let at : (y : ℕ) → y < cycle → getD after y 0 ≡ holderAt rows y = λ y h. lent-bytes rows before after lies y h ∙ chart-at rows y h in
+          let same : (y : ℕ) → getD after (y % cycle) 0 ≡ getD (chart rows) (y % cycle) 0 = λ y. lent-bytes rows before after lies (y % cycle) (mod-lt y (omega arith)) in
           record {
             plan = m .plan;
             planned = m .is-plan;
@@ -179,11 +188,11 @@ module _ (s before : List ℕ) (r : Planned) (after : List ℕ) (a : ChartAnswer
             periods = same-period s (m .plan) (m .is-plan);
             accepted = p .accepted;
             in-cycle = every-in-cycle rows (m .cycles);
-            counted = ap (λ (q : Planned). q .written) (a .result) ∙ ap (λ (x : Answer (List ℕ)). planned x .written) is ∙ answered-written (chart rows) ∙ chart-length rows;
+            counted = ap (λ (q : Planned). q .written) (a .result) ∙ n;
             bytes = at;
             numbers = λ y h. omega (arith, at y h, holder-most rows y, one-each s (m .plan) (m .is-plan));
             few = parts-few s (m .plan .parts) (p .read);
-            served = λ k l h. delivers-same _ _ _ _ (λ y. ap (λ (b : ℕ). eqb b k) (lent-bytes rows before after lies (y % cycle) (mod-lt y (omega arith)))) (chart-delivers rows (m .cycles) (p .accepted) k l h);
+            served = λ k l h. delivers-same _ _ _ _ (λ y. ap (λ (b : ℕ). eqb b k) (same y)) (chart-delivers rows (m .cycles) (p .accepted) k l h);
             as-many = lent-many rows before after lies (m .room-for);
             others = lent-others rows before after lies;
           }

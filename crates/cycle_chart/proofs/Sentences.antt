@@ -73,7 +73,8 @@ module _ (n : ℕ) (due other : ℕ → ℕ) (same : (k : ℕ) → 1 ≤ k → k
       go (yes l) = l
       go (no l) = absurd (omega (arith, a .still (omega arith), same j (omega arith) (a .most), b .none-above j (omega arith) (a .most)))
 
-highest-one : (n : ℕ) (due other : ℕ → ℕ) → ((k : ℕ) → 1 ≤ k → k ≤ n → due k ≡ other k) → (j k : ℕ) → HighestDue n due j → HighestDue n other k → j ≡ k
+highest-one : (n : ℕ) (due other : ℕ → ℕ) → ((k : ℕ) → 1 ≤ k → k ≤ n → due k ≡ other k)
+    → (j k : ℕ) → HighestDue n due j → HighestDue n other k → j ≡ k
 highest-one n due other same j k a b =
     omega (arith, highest-le n due other same j k a b, highest-le n other due (λ i l h. sym (same i l h)) k j b a)
 
@@ -82,12 +83,14 @@ module _ (rows : List Row) (due other : ℕ → ℕ → ℕ) (holder who : ℕ �
   same-due : (y k : ℕ) → 1 ≤ k → k ≤ length rows → due y k ≡ other y k
   same-due zero k l h = a .start k l h ∙ sym (b .start k l h)
   same-due (suc y) k l h =
-      go (same-due y k l h) (highest-one (length rows) (due y) (other y) (same-due y) (holder y) (who y) (a .highest y) (b .highest y)) (begins P (suc y)) refl (eqb (who y) k) refl
+      let w : holder y ≡ who y = highest-one (length rows) (due y) (other y) (same-due y) (holder y) (who y) (a .highest y) (b .highest y) in
+      go (same-due y k l h) w (begins P (suc y)) refl (eqb (who y) k) refl
     where
       P : ℕ
       P = rowAt rows k .period
 
-      go : due y k ≡ other y k → holder y ≡ who y → (c : Bool) → begins P (suc y) ≡ c → (d : Bool) → eqb (who y) k ≡ d → due (suc y) k ≡ other (suc y) k
+      go : due y k ≡ other y k → holder y ≡ who y → (c : Bool) → begins P (suc y) ≡ c → (d : Bool) → eqb (who y) k ≡ d
+          → due (suc y) k ≡ other (suc y) k
       go ih w true e d f = let begun = begins-divides P (suc y) e in a .anew (suc y) k l h begun ∙ sym (b .anew (suc y) k l h begun)
       go ih w false e true f =
           let within = not-begins P (suc y) e in
@@ -110,7 +113,7 @@ module _ (rows : List Row) (due : ℕ → ℕ → ℕ) (holder : ℕ → ℕ) (a
 
 without-alike : (rows : List Row) → Each Alike (map withoutHolding rows) rows
 without-alike [] = none
-without-alike (r ∷ rs) = more (record { period = refl; budget = refl }) (without-alike rs)
+without-alike (r ∷ rs) = more {x = withoutHolding r} {y = r} (record { period = refl; budget = refl }) (without-alike rs)
 
 pub no-holding : (rows : List Row) (y : ℕ) → holderAt (map withoutHolding rows) y ≡ holderAt rows y
 no-holding rows y = ap holderOf (due-alike (without-alike rows) y)

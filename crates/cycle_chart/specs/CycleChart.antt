@@ -2,7 +2,7 @@
 --   Divides P n          == P divides n: some whole number of periods of P makes n. At such a tick n a period of P begins
 --   InCycle rows         == every period divides 720
 --   HighestDue n due k   == k is the highest of the parts 1 to n that is still due a tick, 0 where none is; part j is due `due j` ticks
---   LaidOut rows due holder == the request's sentences on a layout in which part k is still due `due y k` ticks at tick y, and `holder y` has this tick
+--   LaidOut rows due holder == the request's sentences on a layout: part k is still due `due y k` ticks at tick y, and `holder y` has this tick
 --   dueOf rows y k       == how many ticks part k is still due at tick y
 --   withoutHolding r     == the row r without its X
 --   ticksIn bytes k      == the ticks of part k, where the bytes of one cycle are read over and over
@@ -90,7 +90,8 @@ pub record CycleChart : Type 0 where
   pub laid-out : (rows : List Row) → LaidOut rows (dueOf rows) (holderAt rows)
   -- these sentences leave nothing free: wherever they hold, each tick has this holder, and each part is due as many ticks
   pub one-holder : (rows : List Row) (due : ℕ → ℕ → ℕ) (holder : ℕ → ℕ) → LaidOut rows due holder → (y : ℕ) → holder y ≡ holderAt rows y
-  pub one-due : (rows : List Row) (due : ℕ → ℕ → ℕ) (holder : ℕ → ℕ) → LaidOut rows due holder → (y k : ℕ) → 1 ≤ k → k ≤ length rows → due y k ≡ dueOf rows y k
+  pub one-due : (rows : List Row) (due : ℕ → ℕ → ℕ) (holder : ℕ → ℕ) → LaidOut rows due holder
+      → (y k : ℕ) → 1 ≤ k → k ≤ length rows → due y k ≡ dueOf rows y k
   -- lay out ticks 0 to 719, one byte a tick with the part's number
   pub one-a-tick : (rows : List Row) → length (chart rows) ≡ cycle
   pub bytes : (rows : List Row) (y : ℕ) → y < cycle → getD (chart rows) y 0 ≡ holderAt rows y
@@ -102,11 +103,13 @@ pub record CycleChart : Type 0 where
   pub again : (rows : List Row) → passesSystem rows ≡ true → InCycle rows → (k : ℕ) → 1 ≤ k → k ≤ length rows
       → Delivers (rowAt rows k .period) (rowAt rows k .budget) (ticksIn (chart rows) k)
   -- ticks for overruns and switching stay unassigned: no part gets more than its Q in a period, accepted or not
-  pub no-more : (rows : List Row) (k : ℕ) → 1 ≤ k → k ≤ length rows → (n : ℕ) → given (partTicks rows k) (n * rowAt rows k .period) (rowAt rows k .period) ≤ rowAt rows k .budget
+  pub no-more : (rows : List Row) (k : ℕ) → 1 ≤ k → k ≤ length rows → (n : ℕ)
+      → given (partTicks rows k) (n * rowAt rows k .period) (rowAt rows k .period) ≤ rowAt rows k .budget
   -- X counts for nothing
   pub no-holding : (rows : List Row) (y : ℕ) → holderAt (map withoutHolding rows) y ≡ holderAt rows y
   -- and of 720 ticks all but Q for each period are unassigned
-  pub unassigned : (rows : List Row) → passesSystem rows ≡ true → InCycle rows → given (partTicks rows 0) 0 cycle + sum (map (λ r. cycle / r .period * r .budget) rows) ≡ cycle
+  pub unassigned : (rows : List Row) → passesSystem rows ≡ true → InCycle rows
+      → given (partTicks rows 0) 0 cycle + sum (map (λ r. cycle / r .period * r .budget) rows) ≡ cycle
   -- the operation, for every file and all lent bytes: a file is charted exactly if it is planned, its periods all divide 720 and 720 bytes are lent
   pub charted-iff : (s before : List ℕ) (r : Planned) (after : List ℕ) → ChartAnswered s before r after
       → (r .outcome ≡ Done) ↔ ((plan : Plan) × (planFile s ≡ answered plan) × InCycle (plan .rows) × (cycle ≤ length before))

@@ -1,5 +1,5 @@
--- The layout in the request's words: what each part is due from tick to tick, that the holder is the highest part due, that no part gets more than Q ticks
--- in a period, and how many ticks nobody has.
+-- The layout in the request's words: what each part is due from tick to tick, that the holder is the highest part due, that no part gets more than Q
+-- ticks in a period, and how many ticks nobody has.
 -- Assumes nothing.
 use Prim.Native.Nat.{ℕ, zero, suc, _+_, _-_, _*_, _/_, _%_, _≤_, _<_}
 use native.Mathlib.Nat.{div-add-mod'}
@@ -35,7 +35,8 @@ left-less P Q taken y e = rw e (go (taken y) (leb 1 (left P Q taken y)) refl)
     go false false f = omega (arith, leb-false 1 (left P Q taken y) f)
 
 -- what a part is due, by those above it
-due-part : (k : ℕ) (rows : List Row) → k < length rows → (y : ℕ) → getD (dueAt rows y) k 0 ≡ left (getD rows k noRow .period) (getD rows k noRow .budget) (taken (drop (suc k) rows)) y
+due-part : (k : ℕ) (rows : List Row) → k < length rows → (y : ℕ)
+    → getD (dueAt rows y) k 0 ≡ left (getD rows k noRow .period) (getD rows k noRow .budget) (taken (drop (suc k) rows)) y
 due-part k [] h y = absurd (omega arith)
 due-part zero (r ∷ rs) h y = ap (λ (l : List ℕ). getD l 0 0) (due-first r rs y)
 due-part (suc k) (r ∷ rs) h y = ap (λ (l : List ℕ). getD l (suc k) 0) (due-first r rs y) ∙ due-part k rs (omega arith) y
@@ -45,7 +46,10 @@ module _ (rows : List Row) where
   pub due-begins : (k y : ℕ) → 1 ≤ k → k ≤ length rows → begins (rowOf k rows .period) y ≡ true → nthOr 0 k (dueAt rows y) ≡ rowOf k rows .budget
   due-begins zero y l h e = absurd (omega arith)
   due-begins (suc k) y l h e =
-      nth-get 0 k (dueAt rows y) ∙ due-part k rows h y ∙ left-start _ _ _ y (rw (nth-get noRow k rows) at e) ∙ sym (ap (λ (r : Row). r .budget) (nth-get noRow k rows))
+      nth-get 0 k (dueAt rows y)
+      ∙ due-part k rows h y
+      ∙ left-start _ _ _ y (rw (nth-get noRow k rows) at e)
+      ∙ sym (ap (λ (r : Row). r .budget) (nth-get noRow k rows))
 
   -- and within a period one less for each tick of its own
   pub due-less : (k y : ℕ) → 1 ≤ k → k ≤ length rows → begins (rowOf k rows .period) (suc y) ≡ false
@@ -78,8 +82,8 @@ holder-above [] j h = refl
 holder-above (d ∷ ds) zero h = refl
 holder-above (d ∷ ds) (suc j) h = go (holderOf ds) refl (leb 1 d) refl j (rw (holder-first d ds) at h) (holder-above ds)
   where
-    go : (g : ℕ) → holderOf ds ≡ g → (b : Bool) → leb 1 d ≡ b → (j : ℕ) → cond (leb 1 g) (suc g) (tick b) < suc j → ((i : ℕ) → holderOf ds < i → nthOr 0 i ds ≡ 0)
-        → nthOr 0 (suc j) (d ∷ ds) ≡ 0
+    go : (g : ℕ) → holderOf ds ≡ g → (b : Bool) → leb 1 d ≡ b → (j : ℕ) → cond (leb 1 g) (suc g) (tick b) < suc j
+        → ((i : ℕ) → holderOf ds < i → nthOr 0 i ds ≡ 0) → nthOr 0 (suc j) (d ∷ ds) ≡ 0
     go zero e true f zero l ih = absurd (omega arith)
     go zero e false f zero l ih = omega (arith, leb-false 1 d f)
     go (suc g) e b f zero l ih = absurd (omega (arith, rw (le-leb 1 (suc g) (omega arith)) at l))
@@ -87,7 +91,8 @@ holder-above (d ∷ ds) (suc j) h = go (holderOf ds) refl (leb 1 d) refl j (rw (
     go (suc g) e b f (suc j) l ih = let m : suc (suc g) < suc (suc j) = rw (le-leb 1 (suc g) (omega arith)) at l in ih (suc j) (omega (arith, e))
 
 -- no part gets more than Q ticks in a period, whatever the rows
-pub no-more-each : (rows : List Row) (k : ℕ) → 1 ≤ k → k ≤ length rows → (n : ℕ) → given (partTicks rows k) (n * rowOf k rows .period) (rowOf k rows .period) ≤ rowOf k rows .budget
+pub no-more-each : (rows : List Row) (k : ℕ) → 1 ≤ k → k ≤ length rows → (n : ℕ)
+    → given (partTicks rows k) (n * rowOf k rows .period) (rowOf k rows .period) ≤ rowOf k rows .budget
 no-more-each rows zero l h n = absurd (omega arith)
 no-more-each rows (suc k) l h n = rw (nth-get noRow k rows) (go (getD rows k noRow .period) refl)
   where
@@ -133,8 +138,10 @@ unfolding sum
 taken-budgets t [] s d = given-never (taken []) (λ u. ap tick (taken-none u)) 0 t
 taken-budgets t (r ∷ rs) s d =
     let e : t / r .period * r .period ≡ t = omega (arith, div-add-mod' t (r .period), d r (List·Memᴰ·head refl)) in
-    let g : given (firstGets r rs) 0 t ≡ t / r .period * r .budget = rw e at (given-periods (r .period) (r .budget) (firstGets r rs) (served-first r rs s) (t / r .period)) in
-    omega (arith, given-both (taken rs) (firstGets r rs) (taken (r ∷ rs)) (taken-first r rs) 0 t, g, taken-budgets t rs (served-rest r rs s) (λ q m. d q (List·Memᴰ·tail m)))
+    let p = given-periods (r .period) (r .budget) (firstGets r rs) (served-first r rs s) (t / r .period) in
+    let g : given (firstGets r rs) 0 t ≡ t / r .period * r .budget = rw e at p in
+    let rest = taken-budgets t rs (served-rest r rs s) (λ q m. d q (List·Memᴰ·tail m)) in
+    omega (arith, given-both (taken rs) (firstGets r rs) (taken (r ∷ rs)) (taken-first r rs) 0 t, g, rest)
 
 -- of the ticks of a cycle nobody has any but those
 pub free-in-cycle : (rows : List Row) → passesSystem rows ≡ true → every inCycle rows ≡ true
