@@ -25,9 +25,9 @@ use Rattle.layout.proofs.Holders.{taken, due-first, holder-first, first
 use Rattle.layout.proofs.Served.{rowOf, part-gets, served-each, delivers-same}
 
 -- within a period the part is due one less for a tick that it gets
-left-less : (P Q : ℕ) (taken : Assignment) (y : ℕ) → begins P (suc y) ≡ false → left P Q taken (suc y) + tick (gets P Q taken y) ≡ left P Q taken y
+left-gets : (P Q : ℕ) (taken : Assignment) (y : ℕ) → begins P (suc y) ≡ false → left P Q taken (suc y) + tick (gets P Q taken y) ≡ left P Q taken y
 unfolding left gets
-left-less P Q taken y e = rw e (go (taken y) (leb 1 (left P Q taken y)) refl)
+left-gets P Q taken y e = rw e (go (taken y) (leb 1 (left P Q taken y)) refl)
   where
     go : (b c : Bool) → leb 1 (left P Q taken y) ≡ c → left P Q taken y - cond b 0 1 + tick (cond b false c) ≡ left P Q taken y
     go true c f = omega arith
@@ -57,7 +57,7 @@ module _ (rows : List Row) where
   due-less zero y l h e = absurd (omega arith)
   due-less (suc k) y l h e =
       rw (nth-get 0 k (dueAt rows (suc y)), nth-get 0 k (dueAt rows y), due-part k rows h (suc y), due-part k rows h y, part-gets k rows h y)
-      (left-less _ _ _ y (rw (nth-get noRow k rows) at e))
+      (left-gets _ _ _ y (rw (nth-get noRow k rows) at e))
 
 holder-nobody : holderOf [] ≡ 0
 unfolding holderOf numbersFrom greatest
