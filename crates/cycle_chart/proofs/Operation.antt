@@ -143,6 +143,9 @@ module _ (rows : List Row) (before after : List ℕ) (e : after ≡ bufferAfter 
   lent-bytes : (y : ℕ) → y < cycle → getD after y 0 ≡ getD (chart rows) y 0
   lent-bytes y h = ap (λ (l : List ℕ). getD l y 0) lent ∙ List·getD-append (chart rows) _ 0 y (omega (arith, chart-length rows))
 
+  lent-again : (y : ℕ) → getD after (y % cycle) 0 ≡ getD (chart rows) (y % cycle) 0
+  lent-again y = lent-bytes (y % cycle) (mod-lt y (omega arith))
+
   lent-others : drop cycle after ≡ drop cycle before
   lent-others = ap (drop cycle) lent ∙ drop-at (chart rows) _ cycle (chart-length rows) ∙ ap (λ (n : ℕ). drop n before) (chart-length rows)
 
@@ -180,7 +183,6 @@ module _ (s before : List ℕ) (r : Planned) (after : List ℕ) (a : ChartAnswer
           let p = plan-rows s (m .plan) (m .is-plan) in
           let n = ap (λ (x : Answer (List ℕ)). planned x .written) is ∙ answered-written (chart rows) ∙ chart-length rows in
           let at : (y : ℕ) → y < cycle → getD after y 0 ≡ holderAt rows y = λ y h. lent-bytes rows before after lies y h ∙ chart-at rows y h in
-          let same : (y : ℕ) → getD after (y % cycle) 0 ≡ getD (chart rows) (y % cycle) 0 = λ y. lent-bytes rows before after lies (y % cycle) (mod-lt y (omega arith)) in
           record {
             plan = m .plan;
             planned = m .is-plan;
@@ -192,7 +194,7 @@ module _ (s before : List ℕ) (r : Planned) (after : List ℕ) (a : ChartAnswer
             bytes = at;
             numbers = λ y h. omega (arith, at y h, holder-most rows y, one-each s (m .plan) (m .is-plan));
             few = parts-few s (m .plan .parts) (p .read);
-            served = λ k l h. delivers-same _ _ _ _ (λ y. ap (λ (b : ℕ). eqb b k) (same y)) (chart-delivers rows (m .cycles) (p .accepted) k l h);
+            served = λ k l h. delivers-same _ _ _ _ (λ y. ap (λ (b : ℕ). eqb b k) (lent-again rows before after lies y)) (chart-delivers rows (m .cycles) (p .accepted) k l h);
             as-many = lent-many rows before after lies (m .room-for);
             others = lent-others rows before after lies;
           }
