@@ -1,5 +1,6 @@
 -- The chart of a plan: questions 19 and 14, asked behind those of the plan.
 --   leastPlan ps == the parts with the rows of least load
+--   chartedBehind room plan == the chart of the plan, or the refusal of the first no among 19 and 14
 -- Assumes nothing.
 use Prim.Native.Nat.{ℕ, _≤_}
 use mathlib.Core.Path.{_≡_, refl, sym, _∙_, subst}
@@ -11,7 +12,7 @@ use lib.ListN.{length}
 use Rattle.refusal.specs.declared.Refusal.{Refusal}
 use Rattle.refusal.specs.declared.Refusal.the-variants.{NoRoom}
 use Rattle.refusal.specs.Limits.{cycle}
-use Rattle.refusal.specs.Questions.{Question, Answer, ask, firstNo, whenAnswered, whenDone}
+use Rattle.refusal.specs.Questions.{Answer, ask, firstNo, whenAnswered, whenDone}
 use Rattle.refusal.specs.Questions.Answer.{answered, refused}
 use Rattle.refusal.proofs.Answers.{answered-not-refused, answer-same-value}
 use Rattle.selection.specs.Questions.{choiceQuestions}
@@ -41,12 +42,9 @@ answered-in-room (answered a) next room text e = go (leb (length (next a)) room)
 answered-in-room (refused r) next room text e = absurd (answered-not-refused (sym e))
 
 -- questions 19 and 14 of a plan
-abbrev pub behindPlan : ℕ → Plan → List Question
-behindPlan room plan = cycleQuestions (plan .rows) ++ (ask NoRoom (leb cycle room) ∷ [])
-
 module _ (room : ℕ) where
-  abbrev chartedBehind : Plan → Answer (List ℕ)
-  chartedBehind plan = whenDone (firstNo (behindPlan room plan)) (answered (chart (plan .rows)))
+  abbrev pub chartedBehind : Plan → Answer (List ℕ)
+  chartedBehind plan = whenDone (firstNo (cycleQuestions (plan .rows) ++ (ask NoRoom (leb cycle room) ∷ []))) (answered (chart (plan .rows)))
 
   chart-asked : (plan : Plan) → whenAnswered (inCyclePlan plan) (chartedIn room) ≡ chartedBehind plan
   unfolding inCyclePlan inRoom whenAnswered

@@ -134,6 +134,17 @@ module _ (vs : List Partition) where
       go true e false f = absurd (answered-not-refused (sym a ∙ rows-11 e f))
       go true e true f = record { passing = f; are = answer-same-value (sym a ∙ rows-chosen e f) }
 
+-- the plan of readable parts: these, with the rows of least load
+pub plan-chosen : (ps : List PlanPart) (plan : Plan) → chosenPlan ps ≡ answered plan → (plan ≡ record { parts = ps; rows = leastRows (partitions ps) }) × (some passesSystem (keptChoices (partitions ps)) ≡ true)
+unfolding chosenPlan whenAnswered
+plan-chosen ps plan e = go (chosenRows (partitions ps)) refl
+  where
+    go : (x : Answer (List Row)) → chosenRows (partitions ps) ≡ x → (plan ≡ record { parts = ps; rows = leastRows (partitions ps) }) × (some passesSystem (keptChoices (partitions ps)) ≡ true)
+    go (answered rows) f =
+        let c = rows-answered (partitions ps) rows f in
+        (sym (answer-same-value (rw f at e)) ∙ (λ i. record { parts = ps; rows = c .are i }), c .passing)
+    go (refused r) f = absurd (answered-not-refused (sym (rw f at e)))
+
 pub listed-or-14 : (plan : Plan) (room : ℕ) → listedIn room plan ≡ cond (leb (length (planText plan)) room) (answered (planText plan)) (refused NoRoom)
 unfolding inRoom whenDone firstNo
 listed-or-14 plan room = go (leb (length (planText plan)) room)
