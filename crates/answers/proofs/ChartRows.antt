@@ -1,12 +1,9 @@
 -- The chart of a plan: questions 19 and 14, asked behind those of the plan.
---   leastPlan ps == the parts with the rows of least load
 --   chartedBehind room plan == the chart of the plan, or the refusal of the first no among 19 and 14
 -- Assumes nothing.
 use Prim.Native.Nat.{ℕ, _≤_}
-use mathlib.Core.Path.{_≡_, refl, sym, _∙_, subst}
-use mathlib.Core.Bool.{Bool, true, false}
+use mathlib.Core.Path.{_≡_, refl, sym, _∙_}
 use mathlib.Core.List.{List, [], _∷_, _++_}
-use borrow.Author.Tests.{leb-true}
 use lib.Dec.{leb}
 use lib.ListN.{length}
 use Rattle.refusal.specs.declared.Refusal.{Refusal}
@@ -14,32 +11,14 @@ use Rattle.refusal.specs.declared.Refusal.the-variants.{NoRoom}
 use Rattle.refusal.specs.Limits.{cycle}
 use Rattle.refusal.specs.Questions.{Answer, ask, firstNo, whenAnswered, whenDone}
 use Rattle.refusal.specs.Questions.Answer.{answered, refused}
-use Rattle.refusal.proofs.Answers.{answered-not-refused, answer-same-value}
-use Rattle.selection.specs.Questions.{choiceQuestions}
+use Rattle.refusal.proofs.Answers.{answered-not-refused}
 use Rattle.layout.specs.Layout.{chart}
 use Rattle.layout.proofs.Chart.{chart-length}
-use Rattle.plan_file.specs.Numbers.{PlanPart, partsOf}
-use Rattle.answers.specs.Plan.{Plan, partitions, offered, leastRows, chosenRows, chosenPlan, planFile, planText, cycleQuestions, inCyclePlan, cyclePlan}
-use Rattle.answers.specs.Answers.{inRoom, planOf, chartedIn, chartOf}
+use Rattle.plan_file.specs.Numbers.{partsOf}
+use Rattle.answers.specs.Plan.{Plan, planFile, cycleQuestions, inCyclePlan, cyclePlan}
+use Rattle.answers.specs.Answers.{inRoom, chartedIn, chartOf}
 use Rattle.answers.proofs.InTurn.{asked-in-turn, followed, asked-value}
-
--- questions 10 and 11
-abbrev pub leastPlan : List PlanPart → Plan
-leastPlan ps = record { parts = ps; rows = leastRows (partitions ps) }
-
-pub chosen-asked : (ps : List PlanPart) → chosenPlan ps ≡ whenDone (firstNo (choiceQuestions (offered (partitions ps)))) (answered (leastPlan ps))
-unfolding chosenPlan chosenRows whenAnswered
-chosen-asked ps = followed _ _ _
-
--- question 14: bytes that are handed over fit
-pub answered-in-room : {A : Type 0} (x : Answer A) (next : A → List ℕ) (room : ℕ) (text : List ℕ) → whenAnswered x (λ a. inRoom room (next a)) ≡ answered text → length text ≤ room
-unfolding inRoom whenAnswered whenDone firstNo
-answered-in-room (answered a) next room text e = go (leb (length (next a)) room) refl
-  where
-    go : (b : Bool) → leb (length (next a)) room ≡ b → length text ≤ room
-    go true f = subst (λ (u : List ℕ). length u ≤ room) (answer-same-value (rw f at e)) (leb-true (length (next a)) room f)
-    go false f = absurd (answered-not-refused (sym (rw f at e)))
-answered-in-room (refused r) next room text e = absurd (answered-not-refused (sym e))
+use Rattle.answers.proofs.PlanRows.{answered-in-room}
 
 -- questions 19 and 14 of a plan
 module _ (room : ℕ) where
@@ -83,10 +62,7 @@ pub chart-unread : (s : List ℕ) (r : Refusal) → partsOf s ≡ refused r → 
 unfolding planFile whenAnswered
 chart-unread s r e room = chart-unplanned room s r (rw e refl)
 
-pub plan-fits : (s : List ℕ) (room : ℕ) (text : List ℕ) → planOf s room ≡ answered text → length text ≤ room
-unfolding planOf
-plan-fits s room text e = answered-in-room (planFile s) planText room text e
-
+-- the lent bytes
 pub chart-fits : (s : List ℕ) (room : ℕ) (bytes : List ℕ) → chartOf s room ≡ answered bytes → length bytes ≤ room
 unfolding chartOf
 chart-fits s room bytes e = answered-in-room (cyclePlan s) (λ plan. chart (plan .rows)) room bytes e

@@ -6,7 +6,7 @@ use mathlib.Core.List.{List, [], _∷_, _++_}
 use Rattle.refusal.specs.declared.Outcome.{Outcome}
 use Rattle.refusal.specs.declared.Outcome.the-variants.{Done, Refused}
 use Rattle.refusal.specs.Questions.{Question, Answer, firstNo, whenAnswered, whenDone}
-use Rattle.refusal.specs.Questions.Answer.{answered, refused}
+use Rattle.refusal.specs.Questions.Answer.{answered}
 use Rattle.refusal.proofs.Answers.{answered-not-refused, answer-same-value, done-not-refused}
 use Rattle.refusal.proofs.Questions.{refused-before, yes-next, no-answers}
 

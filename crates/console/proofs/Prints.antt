@@ -19,7 +19,7 @@ use Rattle.listing.specs.Listing.{refusedLine}
 use Rattle.listing.proofs.Lines.{refused-length}
 use Rattle.answers.specs.declared.Planned.{Planned}
 use Rattle.answers.specs.Answers.{planOf, planned, bufferAfter, PlanAnswered}
-use Rattle.answers.proofs.ChartRows.{plan-fits}
+use Rattle.answers.proofs.PlanRows.{plan-fits}
 use Rattle.console.specs.declared.Printed.{Printed}
 use Rattle.console.specs.Printed.{programRoom, printedText, printedOf, printed}
 

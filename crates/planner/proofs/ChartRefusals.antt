@@ -1,6 +1,6 @@
 -- The refusals of a chart: 1 to 11 are the plan's, 19 comes at the first part with a period that does not divide 720, then 14 if fewer than 720 bytes are lent.
 -- Assumes nothing.
-use Prim.Native.Nat.{ℕ, suc, _*_, _/_, _%_, _≤_, _<_}
+use Prim.Native.Nat.{ℕ, suc, _/_, _%_, _<_}
 use native.Mathlib.Nat.{div-add-mod', mul-mod-left}
 use native.Mathlib.Omega.{arith}
 use mathlib.Core.Path.{_≡_, refl, sym, ap, subst, _∙_}
@@ -8,8 +8,7 @@ use mathlib.Core.Bool.{Bool, true, false, not, false≢true}
 use mathlib.Core.Logic.{_⊎_, inl, inr, _↔_}
 use mathlib.Core.List.{List, [], _∷_}
 use borrow.Author.Tests.{eq-eqb, eqb-true, leb-false, lt-leb}
-use lib.Dec.{leb, eqb}
-use lib.ListN.{length}
+use lib.Dec.{leb}
 use Rattle.least.specs.Lists.{every, firstOf}
 use Rattle.least.proofs.Lists.{every-member, every-all, nth-get, nth-member}
 use Rattle.least.proofs.Members.{each-place}
@@ -19,7 +18,7 @@ use Rattle.refusal.specs.Limits.{cycle}
 use Rattle.refusal.specs.Number.{isOfTheFile}
 use Rattle.refusal.specs.Questions.{ask, Answer, firstNo, whenAnswered, whenDone}
 use Rattle.refusal.specs.Questions.Answer.{answered, refused}
-use Rattle.refusal.proofs.Answers.{answered-not-refused, answer-same-value, answer-same-refusal}
+use Rattle.refusal.proofs.Answers.{answered-not-refused, answer-same-refusal}
 use Rattle.refusal.proofs.Questions.{asked-iff, first-of-two}
 use Rattle.load.specs.declared.Row.{Row}
 use Rattle.load.specs.Load.{row}
@@ -29,7 +28,8 @@ use Rattle.plan_file.specs.Numbers.{PlanPart, partsOf}
 use Rattle.answers.specs.Plan.{Plan, partitions, leastRows, planFile}
 use Rattle.answers.specs.Answers.{planOf, chartOf}
 use Rattle.answers.proofs.InTurn.{asked-in-turn, followed}
-use Rattle.answers.proofs.ChartRows.{leastPlan, chosen-asked, chartedBehind, chart-of-plan, chart-unplanned, chart-planned}
+use Rattle.answers.proofs.PlanRows.{leastPlan, chosen-asked}
+use Rattle.answers.proofs.ChartRows.{chartedBehind, chart-of-plan, chart-unplanned, chart-planned}
 use Rattle.planner.specs.SystemTest.{rowAt}
 use Rattle.planner.specs.Refusals.{RefusedBehind, chartQuestions, InCycle, AllInCycle, OutOfCycleAt}
 use Rattle.planner.proofs.Weighing.{FailsAt, fails-at, at-fails, not-iff}
@@ -55,7 +55,7 @@ pub unplanned-alike : (s : List ℕ) (room : ℕ) (r : Refusal) → planFile s �
 unfolding planOf whenAnswered
 unplanned-alike s room r e = (rw e refl, chart-unplanned room s r e)
 
--- a file is not planned by 1 to 11 only
+-- only 1 to 11 leave a file without a plan
 unplanned-by-no-other : (s : List ℕ) (r x : Refusal) → planFile s ≡ refused r → isOfTheFile x ≡ false → ((j : ℕ) → x ≡ NoBudget j → ⊥) → (x ≡ NoChoice → ⊥) → r ≡ x → ⊥
 unfolding planFile choiceQuestions whenAnswered
 unplanned-by-no-other s r x e l ten eleven q = go (partsOf s) refl

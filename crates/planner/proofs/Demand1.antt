@@ -20,8 +20,8 @@ use Rattle.plan_file.specs.Numbers.{PlanPart, partsOf}
 use Rattle.plan_file.proofs.Reading.{parts-refused-iff}
 use Rattle.answers.specs.declared.Planned.{Planned}
 use Rattle.answers.specs.Answers.{planOf, chartOf, planned, bufferAfter, HandedOver, PlanAnswered}
-use Rattle.answers.proofs.PlanRows.{plan-unread}
-use Rattle.answers.proofs.ChartRows.{chart-unread, plan-fits, chart-fits}
+use Rattle.answers.proofs.PlanRows.{plan-unread, plan-fits}
+use Rattle.answers.proofs.ChartRows.{chart-unread, chart-fits}
 use Rattle.planner.specs.Demand1.{OfTheFile, OfThePlan, OfTheChart, LentBytes, Demand1}
 use Rattle.planner.specs.Refusals.{RefusedBehind}
 use Rattle.planner.proofs.Behind.{unread-of-file}

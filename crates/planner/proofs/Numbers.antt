@@ -41,8 +41,8 @@ use Rattle.answers.specs.Answers.{chartOf, planned, isPartNumber, candidatesOf,
 use Rattle.answers.specs.Plan.{Plan, partitions, planFile}
 use Rattle.answers.specs.Choice.{Budgeted, BuiltFromKept}
 use Rattle.answers.proofs.KeptRows.{each-of-map}
-use Rattle.answers.proofs.PlanRows.{keptChoices, leastRows-kept, plan-chosen}
-use Rattle.answers.proofs.ChartRows.{leastPlan, chart-is}
+use Rattle.answers.proofs.PlanRows.{keptChoices, leastRows-kept, leastPlan, plan-chosen}
+use Rattle.answers.proofs.ChartRows.{chart-is}
 use Rattle.inquiries.specs.Stretch.{noName, stretched, nameStretch}
 use Rattle.planner.specs.Refusals.{PartOf, SupplyFits}
 use Rattle.planner.specs.Numbers.{KeptIs, SameNamed, NameAt, notWeighed, RowsAre, Charted, EveryNumber}

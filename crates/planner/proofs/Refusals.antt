@@ -4,8 +4,8 @@ use Prim.Native.Nat.{ℕ, _≤_, _<_}
 use native.Mathlib.Omega.{arith}
 use mathlib.Core.Path.{_≡_, refl, sym, ap, _∙_, subst}
 use mathlib.Core.Bool.{Bool, true, false, not, cond, _&&_, false≢true}
-use mathlib.Core.Logic.{inl, inr, _↔_}
-use mathlib.Core.List.{List, [], _∷_, _++_}
+use mathlib.Core.Logic.{_↔_}
+use mathlib.Core.List.{List, [], _∷_}
 use borrow.Author.Tests.{leb-true, leb-false, le-leb}
 use lib.Dec.{leb}
 use lib.ListN.{length}
@@ -34,8 +34,7 @@ use Rattle.answers.specs.Answers.{planOf, isPartNumber, candidatesOf, nameOf, s
 use Rattle.answers.specs.Choice.{WithoutBudget}
 use Rattle.answers.specs.Plan.{Plan, partitions, planFile}
 use Rattle.answers.proofs.InTurn.{asked-in-turn, followed}
-use Rattle.answers.proofs.PlanRows.{everyKept, keptChoices, text, plan-unread, refused-10, refused-11, planned-or-14}
-use Rattle.answers.proofs.ChartRows.{leastPlan, chosen-asked}
+use Rattle.answers.proofs.PlanRows.{everyKept, keptChoices, leastPlan, chosen-asked, text, plan-unread, refused-10, refused-11, planned-or-14}
 use Rattle.planner.specs.Refusals.{RefusedBehind, PartOf, NotAPart, SupplyFits, EveryRefusal, planQuestions}
 use Rattle.planner.proofs.Weighing.{weighed-outcome, not-iff, wrong-count-iff, bad-row-iff, no-time-iff}
 use Rattle.planner.proofs.KeptList.{no-budget-iff}
