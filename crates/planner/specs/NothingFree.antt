@@ -36,7 +36,7 @@ pub record NothingFree : Type 1 where
   -- demand 2 allows one chart, refusals included, for a file and the room
   pub chart : (s : List ℕ) (room : ℕ) (a : Answer (List ℕ)) → ((r : Refusal) → (a ≡ refused r) ↔ RefusedBehind s (chartQuestions room) r) →
       ((bytes : List ℕ) → a ≡ answered bytes → Charted s bytes) → a ≡ chartOf s room
-  -- demand 2 allows one candidate answer for a part, and one answer of weighing for a list of rows
+  -- and one candidate answer for a part, and one answer of weighing for a list of rows
   pub kept : (v : Partition) (a b : Kept) → KeptIs v a → KeptIs v b → a ≡ b
   pub weighed : (rows : List Row) (w v : Weighed) → WeighedIs rows w → WeighedIs rows v → w ≡ v
   -- and one holding time of a lock and of a part, one blocking of a task, and one least budget
