@@ -15,9 +15,9 @@ from statements import check_quotes, check_statements, check_uses, source
 
 # What a caller may ask with any input: what planner passes on, what planner_c exports, and what the program prints.
 OPERATIONS = {
-    'planning::plan', 'inquiries::candidates', 'inquiries::name', 'inquiries::name_outcome', 'inquiries::name_stretch',
+    'planning::plan', 'charting::chart', 'inquiries::candidates', 'inquiries::name', 'inquiries::name_outcome', 'inquiries::name_stretch',
     'load::weigh', 'hand_set::weigh_slice', 'hand_set::supply', 'refusal::number', 'refusal::place', 'console::print',
-    'planner_c::planner_plan', 'planner_c::planner_candidates', 'planner_c::planner_name',
+    'planner_c::planner_plan', 'planner_c::planner_chart', 'planner_c::planner_candidates', 'planner_c::planner_name',
     'planner_c::planner_weigh', 'planner_c::planner_weigh_slice', 'planner_c::planner_supply',
 }
 # The theorems that the documents promise: crate, name, and what it says.
@@ -42,6 +42,7 @@ THEOREMS = [
     ('first_principles', 'first-principles', 'FirstPrinciples'),
     ('private_locks', 'private-locks', 'PrivateLocks'),
     ('kept_pairs', 'kept-pairs', 'KeptPairs'),
+    ('cycle_chart', 'cycle-chart', 'CycleChart'),
 ]
 # How many rows of the table of examples each letter of paper 01 has, and each request of paper 02 with examples there.
 ROWS = {'A': 1, 'B': 5, 'C': 2, 'D': 1, 'E': 1, 'F': 1, 'G': 1, 'H': 1, 'I': 1, 'J': 1, 'K': 5, 'L': 3, 'M100': 4}

@@ -14,23 +14,26 @@ PAGES = {
         'crates/scan/specs/Line.antt', 'crates/scan/specs/Scan.antt', 'crates/ranges/specs/Ranges.antt',
         'crates/delivery/specs/Assignment.antt', 'crates/first_principles/specs/FirstPrinciples.antt', 'crates/supply/specs/Linear.antt',
         'crates/private_locks/specs/PrivateLocks.antt', 'crates/kept_pairs/specs/KeptPairs.antt',
+        'crates/layout/specs/Layout.antt', 'crates/cycle_chart/specs/CycleChart.antt',
     ],
 }
 NAMED = {
     DEMANDS: {
-        'crates/answers/specs/Answers.antt': ['planned', 'bufferAfter', 'HandedOver', 'PlanAnswered'],
-        'crates/answers/specs/Plan.antt': ['partitions'],
+        'crates/answers/specs/Answers.antt': ['planned', 'bufferAfter', 'HandedOver', 'PlanAnswered', 'ChartAnswered'],
+        'crates/answers/specs/Plan.antt': ['Plan', 'partitions'],
         'crates/load/specs/Weigh.antt': ['RowFits'],
         'crates/plan_file/specs/Numbers.antt': ['PlanPart', 'namers', 'isSharedIn', 'planPart', 'planParts', 'partsOf', 'noPlanPart', 'partAt'],
         'crates/plan_file/specs/PartLines.antt': ['ownLines', 'linesByPart', 'linesOfPart'],
-        'crates/refusal/specs/Limits.antt': ['taskLimit', 'keptLimit'],
+        'crates/refusal/specs/Limits.antt': ['taskLimit', 'keptLimit', 'cycle'],
         'crates/refusal/specs/Number.antt': ['isOfTheFile'],
         'crates/task_set/specs/Partition.antt': ['Partition', 'isShared', 'sharedLocks'],
         'crates/supply/specs/Signed.antt': ['larger', 'ceilOf', 'signedRound', 'signedAt', 'signedSupply'],
     },
     REQUESTS: {
         'crates/text/specs/Bytes.antt': ['Line', 'intoLine', 'linesOf'],
-        'crates/refusal/specs/Limits.antt': ['numberLimit'],
+        'crates/refusal/specs/Limits.antt': ['numberLimit', 'cycle'],
+        'crates/answers/specs/Plan.antt': ['cycleQuestions', 'inCyclePlan', 'cyclePlan'],
+        'crates/answers/specs/Answers.antt': ['inRoom', 'chartedIn', 'chartOf'],
         'crates/holding/specs/Holding.antt': ['highestCeiling', 'inRange', 'permitted', 'holdingTimeOf'],
         'crates/candidates/specs/Candidates.antt': ['keptAmong', 'keptList', 'keptFrom', 'keptAnswer', 'shownCeiling'],
         'crates/supply/specs/Supply.antt': ['roundOf', 'supplyAt', 'supplyOf'],
@@ -38,7 +41,7 @@ NAMED = {
     },
 }
 # The crates with the proofs of what the pages say.
-PROVERS = ['answers', 'planner', 'examples', 'scan', 'ranges', 'supply', 'delivery', 'first_principles', 'private_locks', 'kept_pairs']
+PROVERS = ['answers', 'planner', 'examples', 'scan', 'ranges', 'supply', 'delivery', 'first_principles', 'private_locks', 'kept_pairs', 'layout', 'cycle_chart']
 
 
 def without_comments(text, antt):

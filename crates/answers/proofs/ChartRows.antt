@@ -17,7 +17,7 @@ use Rattle.layout.proofs.Chart.{chart-length}
 use Rattle.plan_file.specs.Numbers.{partsOf}
 use Rattle.answers.specs.Plan.{Plan, planFile, cycleQuestions, inCyclePlan, cyclePlan}
 use Rattle.answers.specs.Answers.{inRoom, chartedIn, chartOf}
-use Rattle.answers.proofs.InTurn.{asked-in-turn, followed, asked-value}
+use Rattle.refusal.proofs.InTurn.{asked-in-turn, followed, asked-value}
 use Rattle.answers.proofs.PlanRows.{answered-in-room}
 
 -- questions 19 and 14 of a plan

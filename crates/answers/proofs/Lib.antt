@@ -1,4 +1,3 @@
-pub mod InTurn
 pub mod KeptRows
 pub mod PlanRows
 pub mod ChartRows

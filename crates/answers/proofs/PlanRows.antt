@@ -40,7 +40,7 @@ use Rattle.answers.specs.Parts.{keptRows, shareOf, sharesOf}
 use Rattle.answers.specs.Plan.{Plan, partitions, offered, leastRows, chosenRows, planWith, chosenPlan, planFile, planText}
 use Rattle.answers.specs.Answers.{inRoom, listedIn, planOf}
 use Rattle.answers.specs.Choice.{Chosen, FromKept, PassingChoice, BuiltFromKept}
-use Rattle.answers.proofs.InTurn.{followed}
+use Rattle.refusal.proofs.InTurn.{followed}
 use Rattle.answers.proofs.KeptRows.{none-kept, some-kept, keptRows-sorted, choices-kept, passing-under}
 
 pub shares-rows : (ps : List PlanPart) {rs : List Row} (bs : List Frac) → BuiltFromKept ps rs → length bs ≡ length rs → map (λ s. s .row) (sharesOf ps rs bs) ≡ rs

@@ -21,6 +21,7 @@ use Rattle.refusal.specs.Limits.{cycle}
 use Rattle.refusal.specs.Questions.{Answer, ask, firstNo, whenAnswered, whenDone}
 use Rattle.refusal.specs.Questions.Answer.{answered, refused}
 use Rattle.refusal.proofs.Answers.{answered-not-refused, answer-same-value, done-not-refused}
+use Rattle.refusal.proofs.InTurn.{when-answered}
 use Rattle.task_set.specs.Partition.{Partition}
 use Rattle.load.specs.declared.Row.{Row}
 use Rattle.load.specs.Load.{row, passesSystem}
@@ -35,15 +36,9 @@ use Rattle.answers.specs.Answers.{inRoom, chartedIn, chartOf, planned, bufferAf
 use Rattle.answers.specs.Choice.{FromKept}
 use Rattle.answers.proofs.PlanRows.{rows-answered, leastRows-kept, leastRows-passes}
 use Rattle.planner.specs.SystemTest.{rowAt}
-use Rattle.cycle_chart.specs.CycleChart.{InCycle, Charted}
-use Rattle.cycle_chart.proofs.Sentences.{in-cycle-every, every-in-cycle}
-
--- what is answered was answered at each step
-when-answered : {A B : Type 0} (a : Answer A) (next : A → Answer B) (b : B) → whenAnswered a next ≡ answered b
-    → (x : A) × (a ≡ answered x) × (next x ≡ answered b)
-unfolding whenAnswered
-when-answered (answered x) next b e = (x, refl, e)
-when-answered (refused r) next b e = absurd (answered-not-refused (sym e))
+use Rattle.planner.specs.Refusals.{InCycle}
+use Rattle.planner.proofs.ChartRefusals.{all-in-cycle-iff}
+use Rattle.cycle_chart.specs.CycleChart.{Charted}
 
 one-asked : {A : Type 0} (x : Refusal) (t : Bool) (a b : A) → whenDone (firstNo (ask x t ∷ [])) (answered a) ≡ answered b → (t ≡ true) × (a ≡ b)
 unfolding whenDone firstNo
@@ -118,7 +113,7 @@ made-chart : (s : List ℕ) (room : ℕ) (plan : Plan) → planFile s ≡ answer
 unfolding chartOf cyclePlan inCyclePlan inRoom whenAnswered
 made-chart s room plan e c h =
     ap (λ (a : Answer Plan). whenAnswered (whenAnswered a inCyclePlan) (chartedIn room)) e
-    ∙ ap (λ (a : Answer Plan). whenAnswered a (chartedIn room)) (one-yes _ (every inCycle (plan .rows)) plan (in-cycle-every (plan .rows) c))
+    ∙ ap (λ (a : Answer Plan). whenAnswered a (chartedIn room)) (one-yes _ (every inCycle (plan .rows)) plan (all-in-cycle-iff (plan .rows) .1 c))
     ∙ one-yes NoRoom _ (chart (plan .rows)) (le-leb _ room (omega (arith, chart-length (plan .rows))))
 
 done-answered : (a : Answer (List ℕ)) → planned a .outcome ≡ Done → (text : List ℕ) × (a ≡ answered text)
@@ -164,7 +159,7 @@ module _ (s before : List ℕ) (r : Planned) (after : List ℕ) (a : ChartAnswer
   pub charted-if : r .outcome ≡ Done → Chartable
   charted-if d =
       let m = chart-made s (length before) (made d .0) (made d .1) in
-      (m .plan, m .is-plan, every-in-cycle (m .plan .rows) (m .cycles), m .room-for)
+      (m .plan, m .is-plan, all-in-cycle-iff (m .plan .rows) .0 (m .cycles), m .room-for)
 
   pub if-charted : Chartable → r .outcome ≡ Done
   if-charted c =
@@ -189,7 +184,7 @@ module _ (s before : List ℕ) (r : Planned) (after : List ℕ) (a : ChartAnswer
             one-each = one-each s (m .plan) (m .is-plan);
             periods = same-period s (m .plan) (m .is-plan);
             accepted = p .accepted;
-            in-cycle = every-in-cycle rows (m .cycles);
+            in-cycle = all-in-cycle-iff rows .0 (m .cycles);
             counted = ap (λ (q : Planned). q .written) (a .result) ∙ n;
             bytes = at;
             numbers = λ y h. omega (arith, at y h, holder-most rows y, one-each s (m .plan) (m .is-plan));

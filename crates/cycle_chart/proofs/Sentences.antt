@@ -10,22 +10,20 @@ use mathlib.Core.List.{List, [], _∷_, map}
 use lib.Dec.{eqb}
 use borrow.Author.Tests.{eq-eqb, eqb-true, ne-eqb, eqb-false}
 use lib.ListN.{length}
-use Rattle.least.specs.Lists.{every}
 use Rattle.least.specs.Each.{Each}
 use Rattle.least.specs.Each.Each.{none, more}
-use Rattle.least.proofs.Lists.{nth-get, nth-member, every-member, every-all}
-use Rattle.least.proofs.Members.{each-place}
 use Rattle.refusal.specs.Limits.{cycle}
 use Rattle.delivery.proofs.Given.{tick}
 use Rattle.load.specs.declared.Row.{Row}
 use Rattle.load.specs.Load.{row}
-use Rattle.layout.specs.Layout.{begins, holderOf, dueAt, holderAt, inCycle}
+use Rattle.layout.specs.Layout.{begins, holderOf, dueAt, holderAt}
 use Rattle.layout.proofs.Begins.{begins-start, begins-multiple}
 use Rattle.layout.proofs.Chart.{holder-most}
 use Rattle.layout.proofs.Alike.{Alike, due-alike}
 use Rattle.layout.proofs.Words.{due-begins, due-less, holder-due, holder-above}
 use Rattle.planner.specs.SystemTest.{rowAt}
-use Rattle.cycle_chart.specs.CycleChart.{Divides, InCycle, HighestDue, LaidOut, dueOf, withoutHolding}
+use Rattle.planner.specs.Refusals.{Divides}
+use Rattle.cycle_chart.specs.CycleChart.{HighestDue, LaidOut, dueOf, withoutHolding}
 
 -- a period begins at the multiples of P
 module _ (P n : ℕ) where
@@ -44,16 +42,6 @@ module _ (P n : ℕ) where
 
   not-begins : begins P n ≡ false → Divides P n → ⊥
   not-begins e d = false≢true (sym e ∙ divides-begins d)
-
-pub in-cycle-every : (rows : List Row) → InCycle rows → every inCycle rows ≡ true
-unfolding inCycle
-in-cycle-every rows c =
-    every-all inCycle rows (each-place (row 0 0 0) (λ r. inCycle r ≡ true) rows
-    (λ k h. subst (λ (r : Row). inCycle r ≡ true) (nth-get (row 0 0 0) k rows) (divides-begins _ cycle (c (suc k) (omega arith) h))))
-
-pub every-in-cycle : (rows : List Row) → every inCycle rows ≡ true → InCycle rows
-unfolding inCycle
-every-in-cycle rows c k l h = begins-divides _ cycle (every-member inCycle rows c (nth-member (row 0 0 0) k rows l h))
 
 pub laid-out : (rows : List Row) → LaidOut rows (dueOf rows) (holderAt rows)
 laid-out rows = record {

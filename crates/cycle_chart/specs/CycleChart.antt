@@ -1,6 +1,4 @@
--- Request M-109: a chart of one cycle, sentence by sentence.
---   Divides P n          == P divides n: some whole number of periods of P makes n. At such a tick n a period of P begins
---   InCycle rows         == every period divides 720
+-- Request M-109: a chart of one cycle, sentence by sentence. A period of P begins at each tick that P divides.
 --   HighestDue n due k   == k is the highest of the parts 1 to n that is still due a tick, 0 where none is; part j is due `due j` ticks
 --   LaidOut rows due holder == the request's sentences on a layout: part k is still due `due y k` ticks at tick y, and `holder y` has this tick
 --   dueOf rows y k       == how many ticks part k is still due at tick y
@@ -29,12 +27,7 @@ use Rattle.answers.specs.declared.Planned.{Planned}
 use Rattle.answers.specs.Plan.{Plan, planFile}
 use Rattle.answers.specs.Answers.{ChartAnswered}
 use Rattle.planner.specs.SystemTest.{rowAt}
-
-abbrev pub Divides : ℕ → ℕ → Type 0
-Divides P n = (m : ℕ) × (m * P ≡ n)
-
-abbrev pub InCycle : List Row → Type 0
-InCycle rows = (k : ℕ) → 1 ≤ k → k ≤ length rows → Divides (rowAt rows k .period) cycle
+use Rattle.planner.specs.Refusals.{Divides, InCycle}
 
 pub record HighestDue (n : ℕ) (due : ℕ → ℕ) (k : ℕ) : Type 0 where
   -- a part, or 0

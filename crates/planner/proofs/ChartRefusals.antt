@@ -31,12 +31,12 @@ use Rattle.selection.specs.Questions.{choiceQuestions}
 use Rattle.plan_file.specs.Numbers.{PlanPart, partsOf}
 use Rattle.answers.specs.Plan.{Plan, partitions, leastRows, planFile}
 use Rattle.answers.specs.Answers.{planOf, chartOf}
-use Rattle.answers.proofs.InTurn.{asked-in-turn, followed}
+use Rattle.refusal.proofs.InTurn.{asked-in-turn, followed}
 use Rattle.answers.proofs.PlanRows.{leastPlan, chosen-asked}
 use Rattle.answers.proofs.ChartRows.{chartedBehind, chart-of-plan, chart-unplanned, chart-planned}
 use Rattle.planner.specs.SystemTest.{rowAt}
 use Rattle.planner.specs.Demand1.{OfTheFile}
-use Rattle.planner.specs.Refusals.{RefusedBehind, chartQuestions, InCycle, AllInCycle, OutOfCycleAt}
+use Rattle.planner.specs.Refusals.{RefusedBehind, chartQuestions, Divides, InCycle, OutOfCycleAt}
 use Rattle.planner.proofs.Weighing.{FailsAt, fails-at, at-fails, not-iff}
 use Rattle.planner.proofs.Behind.{refused-behind-iff, unread-of-file}
 
@@ -91,24 +91,24 @@ not-14 (inr (inl (j, e))) = let z : _≡_ {A = ℕ} 0 1 = cc e in omega arith
 not-14 (inr (inr e)) = let z : _≡_ {A = ℕ} 0 1 = cc e in omega arith
 
 -- a period divides 720
-in-cycle-iff : (r : Row) → (inCycle r ≡ true) ↔ InCycle (r .period)
+pub in-cycle-iff : (r : Row) → (inCycle r ≡ true) ↔ Divides (r .period) cycle
 unfolding inCycle
 in-cycle-iff r = (to, from)
   where
-    to : inCycle r ≡ true → InCycle (r .period)
+    to : inCycle r ≡ true → Divides (r .period) cycle
     to e = (cycle / r .period, omega (arith, div-add-mod' cycle (r .period), eqb-true (cycle % r .period) 0 e))
 
-    from : InCycle (r .period) → inCycle r ≡ true
+    from : Divides (r .period) cycle → inCycle r ≡ true
     from (m, e) = eq-eqb (cycle % r .period) 0 (ap (λ (n : ℕ). n % r .period) (sym e) ∙ mul-mod-left m (r .period))
 
-all-in-cycle-iff : (plan : Plan) → (every inCycle (plan .rows) ≡ true) ↔ AllInCycle plan
-all-in-cycle-iff plan = (
-  (λ e i a b. in-cycle-iff _ .0 (every-member inCycle (plan .rows) e (nth-member (row 0 0 0) i (plan .rows) a b))),
-  (λ f. every-all inCycle (plan .rows) (each-place (row 0 0 0) (λ r. inCycle r ≡ true) (plan .rows) (at f))),
+pub all-in-cycle-iff : (rows : List Row) → (every inCycle rows ≡ true) ↔ InCycle rows
+all-in-cycle-iff rows = (
+  (λ e i a b. in-cycle-iff _ .0 (every-member inCycle rows e (nth-member (row 0 0 0) i rows a b))),
+  (λ f. every-all inCycle rows (each-place (row 0 0 0) (λ r. inCycle r ≡ true) rows (at f))),
 )
   where
-    at : AllInCycle plan → (k : ℕ) → k < length (plan .rows) → inCycle (getD (plan .rows) k (row 0 0 0)) ≡ true
-    at f k h = in-cycle-iff _ .1 (subst (λ (r : Row). InCycle (r .period)) (nth-get (row 0 0 0) k (plan .rows)) (f (suc k) (omega arith) (omega (arith, h))))
+    at : InCycle rows → (k : ℕ) → k < length rows → inCycle (getD rows k (row 0 0 0)) ≡ true
+    at f k h = in-cycle-iff _ .1 (subst (λ (r : Row). Divides (r .period) cycle) (nth-get (row 0 0 0) k rows) (f (suc k) (omega arith) (omega (arith, h))))
 
 abbrev firstOut : Plan → ℕ
 firstOut plan = firstOf (λ r. not (inCycle r)) (plan .rows)
@@ -164,15 +164,15 @@ module _ (s : List ℕ) (room : ℕ) where
           ((λ h. out-of-cycle-at plan k .0 (iff .0 (sym is ∙ h))), λ o. is ∙ iff .1 (out-of-cycle-at plan k .1 o))
 
   -- 14
-  pub no-room-for-chart-iff : (chartOf s room ≡ refused NoRoom) ↔ ((plan : Plan) × (planFile s ≡ answered plan) × AllInCycle plan × (room < cycle))
+  pub no-room-for-chart-iff : (chartOf s room ≡ refused NoRoom) ↔ ((plan : Plan) × (planFile s ≡ answered plan) × InCycle (plan .rows) × (room < cycle))
   no-room-for-chart-iff =
-      let iff = behind-plan NoRoom (λ plan. AllInCycle plan × (room < cycle)) not-14 go in
+      let iff = behind-plan NoRoom (λ plan. InCycle (plan .rows) × (room < cycle)) not-14 go in
       ((λ h. let d = iff .0 h in (d .0, d .1, d .2 .0, d .2 .1)), λ (plan, e, c, l). iff .1 (plan, e, (c, l)))
     where
-      go : (plan : Plan) → planFile s ≡ answered plan → (chartOf s room ≡ refused NoRoom) ↔ (AllInCycle plan × (room < cycle))
+      go : (plan : Plan) → planFile s ≡ answered plan → (chartOf s room ≡ refused NoRoom) ↔ (InCycle (plan .rows) × (room < cycle))
       go plan e =
           let iff = asked-14 (firstOut plan) (chart (plan .rows)) (every inCycle (plan .rows)) (leb cycle room) in
           let is = chart-planned room s plan e in (
-            (λ h. let b = iff .0 (sym is ∙ h) in (all-in-cycle-iff plan .0 (b .0), leb-false cycle room (b .1))),
-            (λ (c, l). is ∙ iff .1 (all-in-cycle-iff plan .1 c, lt-leb cycle room l)),
+            (λ h. let b = iff .0 (sym is ∙ h) in (all-in-cycle-iff (plan .rows) .0 (b .0), leb-false cycle room (b .1))),
+            (λ (c, l). is ∙ iff .1 (all-in-cycle-iff (plan .rows) .1 c, lt-leb cycle room l)),
           )

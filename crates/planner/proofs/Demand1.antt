@@ -13,7 +13,7 @@ use Rattle.refusal.specs.Questions.{Question, Answer}
 use Rattle.refusal.specs.Questions.Answer.{answered, refused}
 use Rattle.refusal.specs.FirstNo.{FirstNo}
 use Rattle.refusal.proofs.Answers.{done-not-refused}
-use Rattle.refusal.proofs.Questions.{first-or-later, only-first, first-of-two, first-of-three}
+use Rattle.refusal.proofs.Questions.{first-or-later, only-first, first-of-two, first-of-three, first-of-four}
 use Rattle.load.specs.Weigh.{weighQuestions, structQuestions}
 use Rattle.selection.specs.Questions.{choiceQuestions}
 use Rattle.plan_file.specs.Numbers.{PlanPart, partsOf}
@@ -48,9 +48,6 @@ some-part {j = j} (inl e) = inl (j, e)
 some-part (inr (inl e)) = inr (inl e)
 some-part {k = k} (inr (inr (inl e))) = inr (inr (inl (k, e)))
 some-part (inr (inr (inr e))) = inr (inr (inr e))
-
-first-of-four : (q p o n : Question) (r : Refusal) → FirstNo (q ∷ p ∷ o ∷ n ∷ []) r → (r ≡ q .refusal) ⊎ ((r ≡ p .refusal) ⊎ ((r ≡ o .refusal) ⊎ (r ≡ n .refusal)))
-first-of-four q p o n r f = ⊎-elim (λ e. inl e) (λ g. inr (first-of-three p o n r g)) (first-or-later q (p ∷ o ∷ n ∷ []) r f)
 
 plan-refusal : (s : List ℕ) (room : ℕ) (r : Refusal) → planOf s room ≡ refused r → OfThePlan r
 unfolding choiceQuestions

@@ -45,7 +45,7 @@ use Rattle.answers.proofs.PlanRows.{keptChoices, leastRows-kept, leastPlan, pla
 use Rattle.answers.proofs.ChartRows.{chart-is}
 use Rattle.inquiries.specs.Stretch.{noName, stretched, nameStretch}
 use Rattle.planner.specs.Refusals.{PartOf, SupplyFits}
-use Rattle.planner.specs.Numbers.{KeptIs, SameNamed, NameAt, notWeighed, RowsAre, Charted, EveryNumber}
+use Rattle.planner.specs.Numbers.{KeptIs, SameNamed, NameAt, notWeighed, RowsAre, ChartIs, EveryNumber}
 use Rattle.planner.proofs.Local.{candidates-kept, candidates-local}
 use Rattle.planner.proofs.Weighing.{weighed-outcome, weighOf-is}
 use Rattle.planner.proofs.KeptList.{kept-is, no-budget-iff, some-budget}
@@ -143,7 +143,7 @@ chart-counted s room bytes e =
     let c = chart-is room s bytes e in
     ap planned e ∙ (λ i. record { outcome = Done; written = (ap (λ (l : List ℕ). length l) (c .2) ∙ chart-length (c .0 .rows)) i })
 
-chart-charted : (s : List ℕ) (room : ℕ) (bytes : List ℕ) → chartOf s room ≡ answered bytes → Charted s bytes
+chart-charted : (s : List ℕ) (room : ℕ) (bytes : List ℕ) → chartOf s room ≡ answered bytes → ChartIs s bytes
 chart-charted s room bytes e = let c = chart-is room s bytes e in record { plan = c .0; planned = c .1; is = c .2 }
 
 -- refusals

@@ -33,7 +33,7 @@ use Rattle.plan_file.proofs.Reading.{parts-answered-iff}
 use Rattle.answers.specs.Answers.{planOf, isPartNumber, candidatesOf, nameOf, supplyAnswer, supplied, inRoom, listedIn, keptAt}
 use Rattle.answers.specs.Choice.{WithoutBudget}
 use Rattle.answers.specs.Plan.{Plan, partitions, planFile}
-use Rattle.answers.proofs.InTurn.{asked-in-turn, followed}
+use Rattle.refusal.proofs.InTurn.{asked-in-turn, followed}
 use Rattle.answers.proofs.PlanRows.{everyKept, keptChoices, leastPlan, chosen-asked, text, plan-unread, refused-10, refused-11, planned-or-14}
 use Rattle.planner.specs.Refusals.{RefusedBehind, PartOf, NotAPart, SupplyFits, EveryRefusal, planQuestions}
 use Rattle.planner.proofs.Weighing.{weighed-outcome, not-iff, wrong-count-iff, bad-row-iff, no-time-iff}

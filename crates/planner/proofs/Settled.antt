@@ -30,7 +30,7 @@ use Rattle.answers.specs.Choice.{FromKept}
 use Rattle.answers.proofs.KeptRows.{map-of-each}
 use Rattle.answers.proofs.PlanRows.{plan-unread}
 use Rattle.planner.specs.Refusals.{RefusedBehind, chartQuestions}
-use Rattle.planner.specs.Numbers.{Charted}
+use Rattle.planner.specs.Numbers.{ChartIs}
 use Rattle.planner.specs.Demand1.{Demand1}
 use Rattle.planner.specs.Demand3.{printedRows, PrintedShare, Printed, NoBudgetAt, NoneToPlan, Demanded, Demand3}
 use Rattle.planner.specs.Demand3.NoneToPlan.{ten, eleven}
@@ -128,7 +128,7 @@ plan-settled Promise one three s before r after h = go (partsOf s) refl
 
 -- demand 2 leaves nothing of a chart free
 pub chart-settled : (s : List ℕ) (room : ℕ) (a : Answer (List ℕ)) → ((r : Refusal) → (a ≡ refused r) ↔ RefusedBehind s (chartQuestions room) r) →
-    ((bytes : List ℕ) → a ≡ answered bytes → Charted s bytes) → a ≡ chartOf s room
+    ((bytes : List ℕ) → a ≡ answered bytes → ChartIs s bytes) → a ≡ chartOf s room
 chart-settled s room (refused r) iff are = sym (every-refusal .chart s room r .1 (iff r .0 refl))
 chart-settled s room (answered bytes) iff are = go (chartOf s room) refl
   where

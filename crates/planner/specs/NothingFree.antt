@@ -21,7 +21,7 @@ use Rattle.planner.specs.SystemTest.{BoundIs, LoadIs}
 use Rattle.planner.specs.Weighing.{WeighedIs}
 use Rattle.planner.specs.LocalTest.{LockHolding, PartHolding, BlockingIs, LeastPassing, ShownAt}
 use Rattle.planner.specs.Refusals.{RefusedBehind, chartQuestions}
-use Rattle.planner.specs.Numbers.{KeptIs, Charted}
+use Rattle.planner.specs.Numbers.{KeptIs, ChartIs}
 use Rattle.planner.specs.Demand1.{Demand1}
 use Rattle.planner.specs.Demand3.{Printed, Demanded, Demand3}
 
@@ -35,7 +35,7 @@ pub record NothingFree : Type 1 where
       (s before : List ℕ) (r : Planned) (after : List ℕ) → Promise s before r after → PlanAnswered s before r after
   -- demand 2 allows one chart, refusals included, for a file and the room
   pub chart : (s : List ℕ) (room : ℕ) (a : Answer (List ℕ)) → ((r : Refusal) → (a ≡ refused r) ↔ RefusedBehind s (chartQuestions room) r) →
-      ((bytes : List ℕ) → a ≡ answered bytes → Charted s bytes) → a ≡ chartOf s room
+      ((bytes : List ℕ) → a ≡ answered bytes → ChartIs s bytes) → a ≡ chartOf s room
   -- and one candidate answer for a part, and one answer of weighing for a list of rows
   pub kept : (v : Partition) (a b : Kept) → KeptIs v a → KeptIs v b → a ≡ b
   pub weighed : (rows : List Row) (w v : Weighed) → WeighedIs rows w → WeighedIs rows v → w ≡ v

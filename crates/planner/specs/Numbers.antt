@@ -4,7 +4,7 @@
 --   SameNamed d e   == of two parts, another part of its file names each lock of the one in both files or in none
 --   NameAt s k p n  == n is the stretch of the name of part k, which is p, on its `part` line
 --   RowsAre plan    == the rows of the plan are those that its listing prints, for each part one with the part's period
---   Charted s bytes == the file s is planned, and these bytes are the chart of its plan's rows
+--   ChartIs s bytes == the file s is planned, and these bytes are the chart of its plan's rows
 --   EveryNumber     == the numbers of the six operations, answered and refused
 -- Assumes nothing.
 use Prim.Native.Nat.{ℕ, _≤_, _<_}
@@ -80,7 +80,7 @@ pub record RowsAre (plan : Plan) : Type 0 where
   -- in file order, each with the part's period
   pub periods : Each (λ p r. r .period ≡ p .numbers .period) (plan .parts) (plan .rows)
 
-pub record Charted (s bytes : List ℕ) : Type 0 where
+pub record ChartIs (s bytes : List ℕ) : Type 0 where
   pub plan : Plan
   pub planned : planFile s ≡ answered plan
   pub is : bytes ≡ chart (plan .rows)
@@ -106,7 +106,7 @@ pub record EveryNumber : Type 0 where
   pub rows : (s : List ℕ) (p : Plan) → planFile s ≡ answered p → RowsAre p
   -- a chart counts 720 bytes, and they are the chart of the plan's rows
   pub chart-count : (s : List ℕ) (room : ℕ) (bytes : List ℕ) → chartOf s room ≡ answered bytes → planned (chartOf s room) ≡ record { outcome = Done; written = cycle }
-  pub chart-bytes : (s : List ℕ) (room : ℕ) (bytes : List ℕ) → chartOf s room ≡ answered bytes → Charted s bytes
+  pub chart-bytes : (s : List ℕ) (room : ℕ) (bytes : List ℕ) → chartOf s room ≡ answered bytes → ChartIs s bytes
   -- a refusal consists of its number and its place, with every other number of the answer zero
   pub refused-supply : (P Q t : ℕ) (r : Refusal) → supplyAnswer P Q t ≡ refused r → supplied (supplyAnswer P Q t) ≡ record { outcome = Refused r; ticks = 0 }
   pub refused-weigh : (rows : List Row) (r : Refusal) → weighOf rows .outcome ≡ Refused r → weighOf rows ≡ notWeighed r

@@ -4,8 +4,8 @@
 --   PartOf s k p     == the file s is readable, and p is its part k
 --   NotAPart s k     == the file s is readable, and k is not the number of a part
 --   SupplyFits P Q t == 1 ≤ Q ≤ P ≤ 1,000,000 and t ≤ 1,000,000
---   InCycle P        == the period P divides 720: a whole number of such periods makes 720 ticks
---   AllInCycle plan  == every period of the plan divides 720
+--   Divides P n      == P divides n: a whole number of periods of P makes n ticks
+--   InCycle rows     == every period divides 720
 --   OutOfCycleAt plan k == part k is the first of the plan with a period that does not divide 720
 --   EveryRefusal     == in which case each operation gives each refusal
 -- Assumes nothing.
@@ -65,17 +65,17 @@ pub record SupplyFits (P Q t : ℕ) : Type 0 where
   pub period-most : P ≤ numberLimit
   pub time-most : t ≤ numberLimit
 
-abbrev pub InCycle : ℕ → Type 0
-InCycle P = (m : ℕ) × (m * P ≡ cycle)
+abbrev pub Divides : ℕ → ℕ → Type 0
+Divides P n = (m : ℕ) × (m * P ≡ n)
 
-abbrev pub AllInCycle : Plan → Type 0
-AllInCycle plan = (i : ℕ) → 1 ≤ i → i ≤ length (plan .rows) → InCycle (rowAt (plan .rows) i .period)
+abbrev pub InCycle : List Row → Type 0
+InCycle rows = (k : ℕ) → 1 ≤ k → k ≤ length rows → Divides (rowAt rows k .period) cycle
 
 pub record OutOfCycleAt (plan : Plan) (k : ℕ) : Type 0 where
   pub from : 1 ≤ k
   pub to : k ≤ length (plan .rows)
-  pub out : InCycle (rowAt (plan .rows) k .period) → ⊥
-  pub before : (i : ℕ) → 1 ≤ i → i < k → InCycle (rowAt (plan .rows) i .period)
+  pub out : Divides (rowAt (plan .rows) k .period) cycle → ⊥
+  pub before : (i : ℕ) → 1 ≤ i → i < k → Divides (rowAt (plan .rows) i .period) cycle
 
 pub record EveryRefusal : Type 0 where
   -- the refusal of every operation is that of the first question with the answer no
@@ -109,4 +109,4 @@ pub record EveryRefusal : Type 0 where
   -- 19: the file is planned, and not every period divides 720. The first part with such a period
   pub chart-19 : (s : List ℕ) (room k : ℕ) → (chartOf s room ≡ refused (OutOfCycle k)) ↔ ((plan : Plan) × (planFile s ≡ answered plan) × OutOfCycleAt plan k)
   -- 14 of a chart: the file is planned, every period divides 720, and fewer than 720 bytes are lent
-  pub chart-14 : (s : List ℕ) (room : ℕ) → (chartOf s room ≡ refused NoRoom) ↔ ((plan : Plan) × (planFile s ≡ answered plan) × AllInCycle plan × (room < cycle))
+  pub chart-14 : (s : List ℕ) (room : ℕ) → (chartOf s room ≡ refused NoRoom) ↔ ((plan : Plan) × (planFile s ≡ answered plan) × InCycle (plan .rows) × (room < cycle))

@@ -3,7 +3,7 @@
 -- Assumes nothing.
 use mathlib.Core.Path.{_≡_, refl, sym, ap, _∙_}
 use mathlib.Core.Bool.{Bool, true, false, _&&_, false≢true}
-use mathlib.Core.Logic.{_⊎_, inl, inr, _↔_}
+use mathlib.Core.Logic.{_⊎_, inl, inr, ⊎-elim, _↔_}
 use mathlib.Core.List.{List, [], _∷_, _++_}
 use Rattle.refusal.specs.declared.Refusal.{Refusal}
 use Rattle.refusal.specs.declared.Outcome.{Outcome}
@@ -111,6 +111,9 @@ first-of-three q p o r f = go (first-or-later q (p ∷ o ∷ []) r f)
     go : (r ≡ q .refusal) ⊎ FirstNo (p ∷ o ∷ []) r → (r ≡ q .refusal) ⊎ ((r ≡ p .refusal) ⊎ (r ≡ o .refusal))
     go (inl e) = inl e
     go (inr g) = inr (first-of-two p o r g)
+
+pub first-of-four : (q p o n : Question) (r : Refusal) → FirstNo (q ∷ p ∷ o ∷ n ∷ []) r → (r ≡ q .refusal) ⊎ ((r ≡ p .refusal) ⊎ ((r ≡ o .refusal) ⊎ (r ≡ n .refusal)))
+first-of-four q p o n r f = ⊎-elim inl (λ g. inr (first-of-three p o n r g)) (first-or-later q (p ∷ o ∷ n ∷ []) r f)
 
 -- an answer behind questions is refused by them
 pub asked-iff : {A : Type 0} (qs : List Question) (a : A) (r : Refusal) → (whenDone (firstNo qs) (answered a) ≡ refused r) ↔ FirstNo qs r

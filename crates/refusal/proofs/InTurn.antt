@@ -3,12 +3,12 @@
 use mathlib.Core.Path.{_≡_, refl, sym, _∙_}
 use mathlib.Core.Bool.{Bool, true, false}
 use mathlib.Core.List.{List, [], _∷_, _++_}
 use Rattle.refusal.specs.declared.Outcome.{Outcome}
 use Rattle.refusal.specs.declared.Outcome.the-variants.{Done, Refused}
 use Rattle.refusal.specs.Questions.{Question, Answer, firstNo, whenAnswered, whenDone}
-use Rattle.refusal.specs.Questions.Answer.{answered}
+use Rattle.refusal.specs.Questions.Answer.{answered, refused}
 use Rattle.refusal.proofs.Answers.{answered-not-refused, answer-same-value, done-not-refused}
 use Rattle.refusal.proofs.Questions.{refused-before, yes-next, no-answers}
 
 -- questions with the answer yes are passed over
 done-before : (qs more : List Question) → firstNo qs ≡ Done → firstNo (qs ++ more) ≡ firstNo more
@@ -41,3 +41,9 @@ module _ {A : Type 0} where
   unfolding whenDone
   asked-value Done e = sym (answer-same-value e)
   asked-value (Refused r) e = absurd (answered-not-refused (sym e))
+
+-- what is answered was answered at each step
+pub when-answered : {A B : Type 0} (a : Answer A) (next : A → Answer B) (b : B) → whenAnswered a next ≡ answered b → (x : A) × (a ≡ answered x) × (next x ≡ answered b)
+unfolding whenAnswered
+when-answered (answered x) next b e = (x, refl, e)
+when-answered (refused r) next b e = absurd (answered-not-refused (sym e))
