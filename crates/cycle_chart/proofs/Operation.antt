@@ -10,7 +10,7 @@ use lib.Dec.{leb, eqb}
 use borrow.Author.Tests.{leb-true, le-leb}
 use lib.ListN.{length, length-map, length-append, length-drop, drop, getD, List·getD-append}
 use lib.Seq.{drop-at}
-use Rattle.least.specs.Lists.{every, nthOr}
+use Rattle.least.specs.Lists.{every}
 use Rattle.least.specs.Each.{Each}
 use Rattle.least.proofs.Lists.{nth-get, nth-of-map}
 use Rattle.least.proofs.Each.{length-equal, each-get}

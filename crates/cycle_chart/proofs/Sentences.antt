@@ -12,10 +12,8 @@ use borrow.Author.Tests.{eq-eqb, eqb-true, ne-eqb, eqb-false}
 use lib.ListN.{length}
 use Rattle.least.specs.Each.{Each}
 use Rattle.least.specs.Each.Each.{none, more}
-use Rattle.refusal.specs.Limits.{cycle}
 use Rattle.delivery.proofs.Given.{tick}
 use Rattle.load.specs.declared.Row.{Row}
-use Rattle.load.specs.Load.{row}
 use Rattle.layout.specs.Layout.{begins, holderOf, dueAt, holderAt}
 use Rattle.layout.proofs.Begins.{begins-start, begins-multiple}
 use Rattle.layout.proofs.Chart.{holder-most}

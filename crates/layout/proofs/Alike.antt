@@ -1,12 +1,10 @@
 -- Only periods and budgets count in a layout, so a chart of columns is the chart of the rows that they come from.
 --   Alike r s == two rows have one period and one budget
 -- Assumes nothing.
-use Prim.Native.Nat.{ℕ, _<_}
-use native.Mathlib.Omega.{arith}
+use Prim.Native.Nat.{ℕ}
 use mathlib.Core.Path.{_≡_, refl, sym, ap, ap₂, _∙_, fun-ext}
 use mathlib.Core.List.{List, _∷_, map}
 use lib.Dec.{leb}
-use lib.ListN.{length, getD}
 use Rattle.least.specs.Lists.{countFrom}
 use Rattle.least.specs.Each.{Each}
 use Rattle.least.specs.Each.Each.{none, more}

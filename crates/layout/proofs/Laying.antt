@@ -8,9 +8,9 @@ use native.Mathlib.Omega.{arith}
 use mathlib.Core.Path.{_≡_, refl, sym, ap, ap₂, _∙_}
 use mathlib.Core.Logic.{inr}
 use mathlib.Core.Bool.{Bool, true, false, cond, not, _&&_}
-use mathlib.Core.List.{List, [], _∷_, _++_}
+use mathlib.Core.List.{List, _∷_, _++_}
 use lib.Dec.{leb, ltb, eqb}
-use borrow.Author.Tests.{le-leb, leb-true, leb-false, lt-leb, eq-eqb, ne-eqb, lt-ltb, le-ltb, ltb-true, ltb-false}
+use borrow.Author.Tests.{le-leb, leb-true, leb-false, lt-leb, ne-eqb, ltb-true, ltb-false}
 use lib.ListN.{length, take, drop, getD, take-append-drop, drop-of-length-le, length-drop}
 use lib.Seq.{drop-cons, length-take-le, getD-take, getD-drop, ext-getD}
 use Rattle.least.specs.Code.Stored.{Stored}
@@ -23,7 +23,7 @@ use Rattle.layout.specs.Layout.{begins, holderAt, chart}
 use Rattle.layout.specs.Code.Placing.{freeIn, placedAt, Placed}
 use Rattle.layout.proofs.Begins.{begins-multiple}
 use Rattle.layout.proofs.Share.{left, gets, left-start}
-use Rattle.layout.proofs.Holders.{taken, firstGets, taken-none, holder-at}
+use Rattle.layout.proofs.Holders.{taken, taken-none, holder-at}
 use Rattle.layout.proofs.Chart.{chart-length, chart-at}
 
 -- inside a period a part is due Q less the free ticks that it had, so it gets the first Q free ones

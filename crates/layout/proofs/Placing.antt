@@ -15,7 +15,7 @@ use lib.ListN.{length, getD, set}
 use Rattle.least.specs.Code.Stored.{Stored}
 use Rattle.least.proofs.Stores.{store-start, store-step, store-end, store-rest}
 use Rattle.refusal.specs.Limits.{cycle}
-use Rattle.delivery.specs.Assignment.{Assignment, given}
+use Rattle.delivery.specs.Assignment.{given}
 use Rattle.delivery.proofs.Given.{tick, given-none, given-last, given-inside, given-same-in}
 use Rattle.layout.specs.Code.Placing.{freeIn, placedAt, PlacedIn, Placed}
 
