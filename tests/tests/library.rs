@@ -146,7 +146,7 @@ fn plans_in_every_room() {
 
 #[test]
 fn charts_of_the_cases_and_the_bench_files_and_the_examples() {
-    let answers = files().into_iter().map(|file| same_chart_in_rooms(&file));
+    let answers = files().into_iter().map(|file| same_chart(&file, CYCLE));
     assert!(answers.filter(Result::is_ok).count() > 20);
 }
 
@@ -169,7 +169,11 @@ fn charts_of_made_up_files() {
 #[test]
 fn charts_in_other_rooms() {
     let random = &mut Random::new(10);
-    for file in random::made_up_for_charts(random, rounds(200)) {
+    let examples = timing::examples().expect("the examples").into_iter();
+    let mut files = random::made_up_for_charts(random, rounds(200));
+    files.extend(examples.map(|example| example.bytes));
+    files.extend(cases().into_iter().step_by(8));
+    for file in files {
         let answer = same_chart_in_rooms(&file);
         let room = random.index(2 * CYCLE);
         assert_eq!(
