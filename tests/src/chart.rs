@@ -61,13 +61,8 @@ pub fn unassigned(rows: &[Row]) -> u64 {
 /// How many ticks a printed line has.
 pub const LINE: usize = 60;
 
-/// The chart as text: lines of 60 ticks, `.` for a tick without a part, 1 to 9 and then letters for
-/// the parts.
-pub fn printed(chart: &[u8]) -> Vec<u8> {
-    let mut text = Vec::with_capacity(chart.len() + chart.len() / LINE);
-    for line in chart.chunks(LINE) {
-        text.extend(line.iter().map(|&part| b".123456789abcdefg"[part as usize]));
-        text.push(b'\n');
-    }
-    text
+/// The chart as text: `.` for a tick without a part, 1 to 9 and then letters for the parts.
+pub fn text(chart: &[u8]) -> Vec<u8> {
+    let letter = |&part: &u8| b".123456789abcdefg"[usize::from(part)];
+    chart.iter().map(letter).collect()
 }

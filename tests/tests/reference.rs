@@ -1712,6 +1712,19 @@ fn charts_of_the_examples_equal_brute_force() {
     }
 }
 
+#[test]
+fn charts_of_the_test_program_equal_brute_force() {
+    let mut charted = 0;
+    for file in programs::CHARTS.files().expect("the charts") {
+        let parts = file::read(&file.bytes).unwrap_or_default();
+        // Brute force over all budgets of so long a period would take too long.
+        if largest_number(&parts) < 100_000 {
+            charted += usize::from(same_chart(&file.bytes, false) == 0);
+        }
+    }
+    assert!(charted > 10, "{charted} charted");
+}
+
 /// One part that has its whole period, or as much of it.
 fn one_part(period: u64, budget: u64) -> Vec<u8> {
     let task = format!("task t {period} {budget} {period}");
