@@ -102,7 +102,7 @@ module _ (r : Row) (rs : List Row) where
   abbrev pub firstGets : Assignment
   firstGets = gets (r .period) (r .budget) (taken rs)
 
-  holder-at : (y : ℕ) → holderAt (r ∷ rs) y ≡ cond (taken rs y) (suc (holderAt rs y)) (tick (firstGets y))
+  pub holder-at : (y : ℕ) → holderAt (r ∷ rs) y ≡ cond (taken rs y) (suc (holderAt rs y)) (tick (firstGets y))
   unfolding gets
   holder-at y = ap holderOf (due-first y) ∙ holder-first _ _ ∙ go _ _ (taken rs y)
     where

@@ -5,3 +5,5 @@ pub mod Clean
 pub mod Served
 pub mod Chart
 pub mod Alike
+pub mod Placing
+pub mod Laying

@@ -78,7 +78,7 @@ module _ (P Q : ℕ) (taken : Assignment) where
       go false false false e = inr (omega (arith, leb-false 1 (left y) e))
 
   -- at the start of a period it is due Q
-  left-start : (y : ℕ) → begins P y ≡ true → left y ≡ Q
+  pub left-start : (y : ℕ) → begins P y ≡ true → left y ≡ Q
   unfolding left
   left-start zero e = refl
   left-start (suc y) e = rw e refl

@@ -1,9 +1,9 @@
 -- Numbers are stored one after another, and the other places stay.
 -- Assumes nothing.
-use Prim.Native.Nat.{ℕ, _+_, _<_}
+use Prim.Native.Nat.{ℕ, _+_, _≤_, _<_}
 use native.Mathlib.Omega.{arith}
-use native.Mathlib.Decide.{ℕ-discrete}
-use mathlib.Core.Path.{_≡_, refl, _∙_, subst}
+use native.Mathlib.Decide.{ℕ-discrete, decLt}
+use mathlib.Core.Path.{_≡_, refl, sym, _∙_, subst}
 use mathlib.Core.Logic.{inl, inr, ⊎-elim}
 use mathlib.Core.List.{List}
 use lib.ListN.{length, getD, set, length-set}
@@ -27,3 +27,11 @@ module _ (value : ℕ → ℕ) (first : ℕ) (before : List ℕ) where
 
   pub store-end : (after : List ℕ) (i n : ℕ) → Stored value first i before after → i ≡ n → Stored value first n before after
   store-end after i n s e = subst (λ (m : ℕ). Stored value first m before after) e s
+
+  -- where the next values are there already
+  pub store-rest : (after : List ℕ) (i n : ℕ) → Stored value first i before after → i ≤ n → ((j : ℕ) → i ≤ j → j < n → value j ≡ getD before (first + j) 0) → Stored value first n before after
+  store-rest after i n s h e = record { each = λ j u. at j u (decLt j i); others = λ j u. s .others j (⊎-elim inl (λ l. inr (omega arith)) u); room = s .room }
+    where
+      at : (j : ℕ) → j < n → Dec (j < i) → getD after (first + j) 0 ≡ value j
+      at j u (yes q) = s .each j q
+      at j u (no q) = s .others (first + j) (inr (omega arith)) ∙ sym (e j (omega arith) u)

@@ -1,9 +1,10 @@
-// The five operations: plan, candidates, name with its outcome and its place, weigh (by value and over a lent slice) and supply; with what they take and answer.
+// The six operations: plan, chart, candidates, name with its outcome and its place, weigh (by value and over a lent slice) and supply; with what they take and answer.
 pub use answers::CandidateList;
 pub use answers::Planned;
 pub use answers::Supplied;
 pub use candidates::Kept;
 pub use candidates::Pair;
+pub use charting::chart;
 pub use hand_set::supply;
 pub use hand_set::weigh_slice;
 pub use inquiries::NameStretch;

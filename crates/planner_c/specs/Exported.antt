@@ -1,6 +1,6 @@
 -- The answers of the operations as callers in C and Rust get them: an outcome is its number and its place, 0 and 0 on success.
 --   planExported, candidatesExported, nameExported, weighExported, supplyExported == the answer of each operation so
---   PlanExported s before r after == r is so the result that `plan` promises, of the file s and the lent bytes before and after
+--   BytesExported Promise s before r after == r is so the result that an operation promises, of the file s and the lent bytes before and after
 --   NameExported s k r == r is the name of part k in the file s so, and its bytes stand there
 -- Assumes nothing.
 use Prim.Native.Nat.{ℕ}
@@ -12,7 +12,7 @@ use Rattle.load.specs.declared.Weighed.{Weighed}
 use Rattle.answers.specs.declared.Planned.{Planned}
 use Rattle.answers.specs.declared.CandidateList.{CandidateList}
 use Rattle.answers.specs.declared.Supplied.{Supplied}
-use Rattle.answers.specs.Answers.{PlanAnswered, nameOf, nameBytes}
+use Rattle.answers.specs.Answers.{nameOf, nameBytes}
 use Rattle.inquiries.specs.declared.NameStretch.{NameStretch}
 use Rattle.inquiries.specs.Stretch.{nameStretch}
 use Rattle.planner_c.specs.declared.PlanAnswer.{PlanAnswer}
@@ -24,9 +24,9 @@ use Rattle.planner_c.specs.declared.SupplyAnswer.{SupplyAnswer}
 unfoldable pub planExported : Planned → PlanAnswer
 planExported a = record { number = numberOf (a .outcome); place = placeOf (a .outcome); written = a .written }
 
-pub record PlanExported (s before : List ℕ) (r : PlanAnswer) (after : List ℕ) : Type 0 where
+pub record BytesExported (Promise : List ℕ → List ℕ → Planned → List ℕ → Type 0) (s before : List ℕ) (r : PlanAnswer) (after : List ℕ) : Type 0 where
   pub answer : Planned
-  pub promised : PlanAnswered s before answer after
+  pub promised : Promise s before answer after
   pub is : r ≡ planExported answer
 
 unfoldable pub candidatesExported : CandidateList → CandidatesAnswer

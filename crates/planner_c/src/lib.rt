@@ -1,4 +1,5 @@
 // The operations for callers in C and Rust. An answer has the refusal's number and place, zero on success, and its own numbers.
+use answers::Planned;
 use candidates::Kept;
 use least::Frac;
 use load::Row;
@@ -6,8 +7,8 @@ use load::Rows;
 use load::Weighed;
 ghost use mathlib.Core.Path.{_≡_};
 ghost use Rattle.load.specs.Weigh.{weighOf, weighRows};
-ghost use Rattle.answers.specs.Answers.{candidatesOf, candidateList, supplyAnswer, supplied};
-ghost use Rattle.planner_c.specs.Exported.{PlanExported, candidatesExported, NameExported, weighExported, supplyExported};
+ghost use Rattle.answers.specs.Answers.{PlanAnswered, ChartAnswered, candidatesOf, candidateList, supplyAnswer, supplied};
+ghost use Rattle.planner_c.specs.Exported.{planExported, BytesExported, candidatesExported, NameExported, weighExported, supplyExported};
 
 #[repr(C)]
 pub struct PlanAnswer {
@@ -16,17 +17,30 @@ pub struct PlanAnswer {
     pub written: usize,
 }
 
-#[no_mangle]
-pub extern "C" fn planner_plan(file: &[u8], out: &mut [u8]) -> PlanAnswer
-    ensures { λ r. ⌜ PlanExported (now (file .entry)) (now (out .entry)) r (now (out .exit)) ⌝ }
+// An answer of a plan or a chart, with its outcome as number and place.
+fn plan_answer(a: Planned) -> PlanAnswer
+    ensures { λ r. ⌜ r ≡ planExported a ⌝ }
 {
-    let a = planner::plan(file, out);
     let o = a.outcome;
     PlanAnswer {
         number: refusal::number(o),
         place: refusal::place(o),
         written: a.written,
     }
+}
+
+#[no_mangle]
+pub extern "C" fn planner_plan(file: &[u8], out: &mut [u8]) -> PlanAnswer
+    ensures { λ r. ⌜ BytesExported PlanAnswered (now (file .entry)) (now (out .entry)) r (now (out .exit)) ⌝ }
+{
+    plan_answer(planner::plan(file, out))
+}
+
+#[no_mangle]
+pub extern "C" fn planner_chart(file: &[u8], out: &mut [u8]) -> PlanAnswer
+    ensures { λ r. ⌜ BytesExported ChartAnswered (now (file .entry)) (now (out .entry)) r (now (out .exit)) ⌝ }
+{
+    plan_answer(planner::chart(file, out))
 }
 
 #[repr(C)]

@@ -8,24 +8,27 @@ use mathlib.Core.List.{List, _++_, map}
 use borrow.Author.Tests.{le-leb, lt-leb}
 use lib.Dec.{leb}
 use lib.ListN.{length, take, drop}
+use lib.Seq.{getD-take}
 use Rattle.least.specs.Lists.{pad}
 use Rattle.least.proofs.Fraction.{FirstGreatest, first-if-any}
 use Rattle.least.proofs.First.{first-greatest}
 use Rattle.least.proofs.Pad.{length-pad, take-pad}
+use Rattle.least.proofs.Members.{getD-member}
 use Rattle.refusal.specs.declared.Refusal.{Refusal}
 use Rattle.refusal.specs.declared.Refusal.the-variants.{NoRoom}
 use Rattle.refusal.specs.declared.Outcome.the-variants.{Done, Refused}
 use Rattle.refusal.specs.Limits.{rowLimit}
 use Rattle.refusal.specs.Questions.{Answer, whenAnswered}
 use Rattle.refusal.specs.Questions.Answer.{answered, refused}
-use Rattle.refusal.proofs.Answers.{done-not-refused, outcome-same-refusal}
 use Rattle.load.specs.declared.Row.{Row}
 use Rattle.load.specs.declared.Rows.{Rows}
 use Rattle.load.specs.declared.Weighed.{Weighed}
 use Rattle.load.specs.Load.{boundsOf, loadOf, loadRow}
 use Rattle.load.specs.Weigh.{rowsOf, weighed, weighRows}
 use Rattle.load.proofs.Load.{boundsOf-length}
+use Rattle.load.specs.Code.Rows.{noRow, FineRows}
 use Rattle.load.proofs.Weighing.{weigh-few}
+use Rattle.load.proofs.InRange.{in-range-fine}
 use Rattle.writer.specs.Code.Written.{Written}
 use Rattle.plan_file.specs.Numbers.{PlanPart}
 use Rattle.plan_file.proofs.PlanParts.{parts-fine, parts-some}
@@ -34,32 +37,26 @@ use Rattle.reader.specs.declared.PlanFile.{PlanFile}
 use Rattle.reader.specs.Code.Reader.{partsIn, ReadIs}
 use Rattle.reader.proofs.Handed.{parts-count}
 use Rattle.answers.specs.Parts.{sharesOf}
-use Rattle.answers.specs.Answers.{planOf, planned, bufferAfter, PlanAnswered, listedIn}
-use Rattle.answers.specs.Plan.{Plan, planWith, planText}
+use Rattle.answers.specs.Answers.{planOf, planned, bufferAfter, HandedOver, PlanAnswered, listedIn}
+use Rattle.answers.specs.Plan.{Plan, planText}
 use Rattle.answers.proofs.PlanRows.{shares-bounds, listed-or-14}
 use Rattle.offers.specs.Code.Least.{planRowsFrom}
 use Rattle.printing.specs.Code.Printing.{listingAt, sharesIn, ToPrint, EachFine, AllShownAre}
 use Rattle.printing.proofs.Ceilings.{shares-shown}
 use Rattle.planning.specs.Code.Chosen.{rowsRead, PlanIs}
 use Rattle.planning.proofs.Planning.{file-fine, listing-same, buffer-same, each-fine}
-use Rattle.planning.proofs.Weighed.{kept-weighed}
-use Rattle.planning.proofs.Choosing.{plan-read, readable, reads, count-is, rows-room, plan-is, kept, passes, rows-length}
+use Rattle.planning.proofs.Weighed.{rows-in-range, kept-weighed}
+use Rattle.planning.proofs.Choosing.{plan-refused, readable, reads, count-is, rows-room, plan-is, kept, passes, rows-length}
 
 -- a refusal has zeros everywhere else, and no byte changes
-refused-is : (s out : List ℕ) (r : Refusal) → planOf s (length out) ≡ refused r → PlanAnswered s out (record { outcome = Refused r; written = 0 }) out
+pub refused-over : (a : Answer (List ℕ)) (out : List ℕ) (r : Refusal) → a ≡ refused r → HandedOver a out (record { outcome = Refused r; written = 0 }) out
 unfolding planned bufferAfter
-refused-is s out r e = record { result = sym (ap planned e); bytes = sym (ap (λ (a : Answer (List ℕ)). bufferAfter a out) e) }
+refused-over a out r e = record { result = sym (ap planned e); bytes = sym (ap (λ (b : Answer (List ℕ)). bufferAfter b out) e) }
 
 -- questions 1 to 11
 pub none-chosen : (s : List ℕ) (f : PlanFile) → ReadIs s f → (r : Refusal) → planRowsFrom (rowsRead f) .outcome ≡ Refused r → (out : List ℕ) → PlanAnswered s out (record { outcome = Refused r; written = 0 }) out
-unfolding planOf planRowsFrom whenAnswered
-none-chosen s f is r h out = go (rowsRead f) refl
-  where
-    go : (a : Answer (List Row)) → rowsRead f ≡ a → PlanAnswered s out (record { outcome = Refused r; written = 0 }) out
-    go (answered rows) e = absurd (done-not-refused (sym (ap (λ (b : Answer (List Row)). planRowsFrom b .outcome) e) ∙ h))
-    go (refused q) e =
-        let same : q ≡ r = outcome-same-refusal (sym (ap (λ (b : Answer (List Row)). planRowsFrom b .outcome) e) ∙ h) in
-        refused-is s out r (ap (λ (a : Answer Plan). whenAnswered a (listedIn (length out))) (plan-read s f is ∙ ap (planWith (partsIn s f)) (e ∙ ap refused same)))
+unfolding planOf whenAnswered
+none-chosen s f is r h out = refused-over (planOf s (length out)) out r (ap (λ (a : Answer Plan). whenAnswered a (listedIn (length out))) (plan-refused s f is r h))
 
 -- some choice passes
 module _ (s : List ℕ) (f : PlanFile) (rows : Rows) (is : PlanIs s f rows) where
@@ -79,6 +76,19 @@ module _ (s : List ℕ) (f : PlanFile) (rows : Rows) (is : PlanIs s f rows) wher
   weighed-is =
       weigh-few rows (omega (arith, count-is s f rows is, is .read .few))
       ∙ kept-weighed ps (parts-fine s ps (reads s f rows is)) (omega (arith, R-length, some-part)) (omega (arith, R-length, is .read .few)) (kept s f rows is) (passes s f rows is)
+
+  -- its rows are in range
+  pub rows-fine : FineRows rows
+  unfolding rowsOf
+  rows-fine =
+      let n = rows-room s f rows is in
+      let c = count-is s f rows is in
+      in-range-fine rows (record {
+        some = omega (arith, c, some-part);
+        few = omega (arith, c, is .read .few);
+        room = omega (arith, c, n);
+        each = λ k h. rw (← getD-take (rows .count) (rows .rows) k noRow h) (rows-in-range ps (parts-fine s ps (reads s f rows is)) (kept s f rows is) _ (getD-member R k noRow (omega (arith, R-length, c))));
+      })
 
   abbrev w : Weighed
   w = weighRows rows
@@ -148,7 +158,7 @@ module _ (s : List ℕ) (f : PlanFile) (rows : Rows) (is : PlanIs s f rows) wher
         ap (listingAt (x .row)) shares-are ∙ listing-same (sharesOf ps R (boundsOf R)) (x .row) (omega (arith, row-first, at)) (rw bounds (sym row-is ∙ sym at))
 
     pub no-room : length out < length shown → PlanAnswered s out (record { outcome = Refused NoRoom; written = 0 }) out
-    no-room l = refused-is s out NoRoom (plan-no-room (length out) (rw shown-is at l))
+    no-room l = refused-over (planOf s (length out)) out NoRoom (plan-no-room (length out) (rw shown-is at l))
 
     pub printed-is : (after : List ℕ) (n : ℕ) → length shown ≤ length out → Written 0 shown out after n → PlanAnswered s out (record { outcome = Done; written = n }) after
     unfolding planned bufferAfter

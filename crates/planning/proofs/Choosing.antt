@@ -8,12 +8,13 @@ use mathlib.Core.List.{List}
 use lib.ListN.{length, length-map}
 use Rattle.least.proofs.Each.{length-equal}
 use Rattle.least.proofs.Pad.{length-pad, take-pad}
+use Rattle.refusal.specs.declared.Refusal.{Refusal}
 use Rattle.refusal.specs.declared.Outcome.{Outcome}
 use Rattle.refusal.specs.declared.Outcome.the-variants.{Done, Refused}
 use Rattle.refusal.specs.Limits.{rowLimit}
 use Rattle.refusal.specs.Questions.{Answer, whenAnswered, whenDone}
 use Rattle.refusal.specs.Questions.Answer.{answered, refused}
-use Rattle.refusal.proofs.Answers.{answered-not-refused, done-not-refused}
+use Rattle.refusal.proofs.Answers.{answered-not-refused, done-not-refused, outcome-same-refusal}
 use Rattle.task_set.specs.Partition.{Partition}
 use Rattle.load.specs.declared.Row.{Row}
 use Rattle.load.specs.declared.Rows.{Rows}
@@ -39,6 +40,17 @@ plan-read s f is = ap (λ (a : Answer (List PlanPart)). whenAnswered a chosenPla
     go : (o : Outcome) → whenAnswered (whenDone o (answered (partsIn s f))) chosenPlan ≡ planWith (partsIn s f) (whenDone o (chosenRows (partitionsIn f)))
     go Done = ap (λ (vs : List Partition). planWith (partsIn s f) (chosenRows vs)) (partitions-same s f is)
     go (Refused r) = refl
+
+-- questions 1 to 11
+pub plan-refused : (s : List ℕ) (f : PlanFile) → ReadIs s f → (r : Refusal) → planRowsFrom (rowsRead f) .outcome ≡ Refused r → planFile s ≡ refused r
+unfolding planRowsFrom whenAnswered
+plan-refused s f is r h = go (rowsRead f) refl
+  where
+    go : (a : Answer (List Row)) → rowsRead f ≡ a → planFile s ≡ refused r
+    go (answered rows) e = absurd (done-not-refused (sym (ap (λ (b : Answer (List Row)). planRowsFrom b .outcome) e) ∙ h))
+    go (refused q) e =
+        let same : q ≡ r = outcome-same-refusal (sym (ap (λ (b : Answer (List Row)). planRowsFrom b .outcome) e) ∙ h) in
+        plan-read s f is ∙ ap (planWith (partsIn s f)) (e ∙ ap refused same)
 
 module _ (s : List ℕ) (f : PlanFile) (rows : Rows) (is : PlanIs s f rows) where
   abbrev ps : List PlanPart

@@ -38,7 +38,7 @@ kept-in-range p r fine k =
     let x = deadlines-holding (p .numbers) numberLimit (deadline-most p fine) (c .setting) (c .allowed) in
     simp (le-leb 1 (r .budget) (b .0 .positive), le-leb (r .budget) (r .period) (omega (arith, b .1, k .period)), le-leb (r .period) numberLimit (omega (arith, k .period, fine .period-most)), le-leb (r .holding) numberLimit (omega (arith, x, c .holding)))
 
-rows-in-range : (ps : List PlanPart) {rs : List Row} → AllPartsFine ps → BuiltFromKept ps rs → (r : Row) → List·Memᴰ r rs → rowInRange r ≡ true
+pub rows-in-range : (ps : List PlanPart) {rs : List Row} → AllPartsFine ps → BuiltFromKept ps rs → (r : Row) → List·Memᴰ r rs → rowInRange r ≡ true
 rows-in-range [] fine Each.none r m = absurd (List·Memᴰ·not-nil m)
 rows-in-range (p ∷ ps) fine (Each.more {y = s} h hs) r (List·Memᴰ·head e) = rw e (kept-in-range p s (fine p (List·Memᴰ·head refl)) h)
 rows-in-range (p ∷ ps) fine (Each.more h hs) r (List·Memᴰ·tail m) = rows-in-range ps (λ q k. fine q (List·Memᴰ·tail k)) hs r m
