@@ -232,16 +232,31 @@ fn m109_the_chart_of_the_kiosk() {
     assert_eq!(rows[5], ["unassigned", "", "", &ticks_of(0).to_string()]);
     assert_eq!(rows.len(), 6);
     let given = CYCLE - ticks_of(0);
-    assert!(guide.contains(&format!(
-        "({} with them, and {given} ticks of {CYCLE} without)",
+    let said = format!(
+        "{} with one in every period, and {given} ticks of 720",
         load(&listing)
-    )));
+    );
+    assert!(words(&guide).contains(&said), "{said}");
+    // The load is that of the lowest part, with an overrun in every period of the cycle.
+    let share =
+        |line: &str| -> Vec<usize> { line.split('\t').skip(2).flat_map(str::parse).collect() };
+    let shares = listing
+        .lines()
+        .filter(|line| line.starts_with("share"))
+        .map(share);
+    let with_overruns: usize = shares.map(|row| CYCLE / row[0] * (row[1] + row[2])).sum();
+    assert_eq!(load(&listing), format!("{with_overruns}/{CYCLE}"));
+}
+
+/// The words of a page, one blank between two.
+fn words(page: &str) -> String {
+    page.split_whitespace().collect::<Vec<_>>().join(" ")
 }
 
 #[test]
 fn m109_periods_out_of_the_cycle() {
     let guide = source("docs/GUIDE.md");
-    let words = guide.split_whitespace().collect::<Vec<_>>().join(" ");
+    let words = words(&guide);
     let divisors = (1..720).filter(|&period| chart::divides_cycle(period));
     let divisors: Vec<String> = divisors.map(|period| period.to_string()).collect();
     assert_eq!(divisors.len() + 1, 30);
