@@ -1,2 +1,4 @@
+pub mod InTurn
 pub mod KeptRows
 pub mod PlanRows
+pub mod ChartRows

@@ -1,15 +1,16 @@
 -- The rows of a plan: built from kept pairs, of least load, and in these with the greatest holding times; and the questions 10, 11 and 14 in their order.
 --   everyKept vs   == the answer to question 10: every part has a kept row
 --   keptChoices vs == the choices built from kept pairs
---   text ps        == the listing of the parts with the rows of least load
+--   leastPlan ps   == the parts with the rows of least load
+--   text ps        == its listing
 -- Assumes nothing.
 use Prim.Native.Nat.{ℕ, zero, suc, _≤_}
 use native.Mathlib.Omega.{arith}
-use mathlib.Core.Path.{_≡_, refl, sym, ap, _∙_}
+use mathlib.Core.Path.{_≡_, refl, sym, ap, _∙_, subst}
 use mathlib.Core.Bool.{Bool, true, false, not, cond, false≢true}
 use mathlib.Core.List.{List, map, Memᴰ·map}
 use lib.Dec.{leb}
-use borrow.Author.Tests.{not-true, not-false}
+use borrow.Author.Tests.{not-true, not-false, leb-true}
 use lib.ListN.{length, length-map}
 use Rattle.least.specs.declared.Frac.{Frac}
 use Rattle.least.specs.Lists.{isEmpty, every, some, firstOf, nthOr}
@@ -39,6 +40,7 @@ use Rattle.answers.specs.Parts.{keptRows, shareOf, sharesOf}
 use Rattle.answers.specs.Plan.{Plan, partitions, offered, leastRows, chosenRows, planWith, chosenPlan, planFile, planText}
 use Rattle.answers.specs.Answers.{inRoom, listedIn, planOf}
 use Rattle.answers.specs.Choice.{Chosen, FromKept, PassingChoice, BuiltFromKept}
+use Rattle.answers.proofs.InTurn.{followed}
 use Rattle.answers.proofs.KeptRows.{none-kept, some-kept, keptRows-sorted, choices-kept, passing-under}
 
 pub shares-rows : (ps : List PlanPart) {rs : List Row} (bs : List Frac) → BuiltFromKept ps rs → length bs ≡ length rs → map (λ s. s .row) (sharesOf ps rs bs) ≡ rs
@@ -66,12 +68,15 @@ module _ (vs : List Partition) (e : some passesSystem (keptChoices vs) ≡ true)
   pub leastRows-passes : passesSystem (leastRows vs) ≡ true
   leastRows-passes = some-passes (keptChoices vs) some-choice .0 e
 
+abbrev pub leastPlan : List PlanPart → Plan
+leastPlan ps = record { parts = ps; rows = leastRows (partitions ps) }
+
 module _ (ps : List PlanPart) where
   abbrev vs : List Partition
   vs = partitions ps
 
   abbrev pub text : List ℕ
-  text = planText (record { parts = ps; rows = leastRows vs })
+  text = planText (leastPlan ps)
 
   -- question 10
   pub empty-at : (i : ℕ) → isEmpty (nthOr (keptRows (noPlanPart .numbers)) i (offered vs)) ≡ isEmpty (keptRows (partAt ps i .numbers))
@@ -134,6 +139,34 @@ module _ (vs : List Partition) where
       go true e false f = absurd (answered-not-refused (sym a ∙ rows-11 e f))
       go true e true f = record { passing = f; are = answer-same-value (sym a ∙ rows-chosen e f) }
 
+pub chosen-asked : (ps : List PlanPart) → chosenPlan ps ≡ whenDone (firstNo (choiceQuestions (offered (partitions ps)))) (answered (leastPlan ps))
+unfolding chosenPlan chosenRows whenAnswered
+chosen-asked ps = followed _ _ _
+
+pub plan-chosen : (ps : List PlanPart) (plan : Plan) → chosenPlan ps ≡ answered plan → (plan ≡ leastPlan ps) × (some passesSystem (keptChoices (partitions ps)) ≡ true)
+unfolding chosenPlan whenAnswered
+plan-chosen ps plan e = go (chosenRows (partitions ps)) refl
+  where
+    go : (x : Answer (List Row)) → chosenRows (partitions ps) ≡ x → (plan ≡ leastPlan ps) × (some passesSystem (keptChoices (partitions ps)) ≡ true)
+    go (answered rows) f =
+        let c = rows-answered (partitions ps) rows f in
+        (sym (answer-same-value (rw f at e)) ∙ (λ i. record { parts = ps; rows = c .are i }), c .passing)
+    go (refused r) f = absurd (answered-not-refused (sym (rw f at e)))
+
+-- question 14: bytes that are handed over fit
+pub answered-in-room : {A : Type 0} (x : Answer A) (next : A → List ℕ) (room : ℕ) (text : List ℕ) → whenAnswered x (λ a. inRoom room (next a)) ≡ answered text → length text ≤ room
+unfolding inRoom whenAnswered whenDone firstNo
+answered-in-room (answered a) next room text e = go (leb (length (next a)) room) refl
+  where
+    go : (b : Bool) → leb (length (next a)) room ≡ b → length text ≤ room
+    go true f = subst (λ (u : List ℕ). length u ≤ room) (answer-same-value (rw f at e)) (leb-true (length (next a)) room f)
+    go false f = absurd (answered-not-refused (sym (rw f at e)))
+answered-in-room (refused r) next room text e = absurd (answered-not-refused (sym e))
+
+pub plan-fits : (s : List ℕ) (room : ℕ) (text : List ℕ) → planOf s room ≡ answered text → length text ≤ room
+unfolding planOf
+plan-fits s room text e = answered-in-room (planFile s) planText room text e
+
 pub listed-or-14 : (plan : Plan) (room : ℕ) → listedIn room plan ≡ cond (leb (length (planText plan)) room) (answered (planText plan)) (refused NoRoom)
 unfolding inRoom whenDone firstNo
 listed-or-14 plan room = go (leb (length (planText plan)) room)
@@ -170,4 +203,4 @@ module _ (s : List ℕ) (ps : List PlanPart) (room : ℕ) (e : partsOf s ≡ ans
 
   pub planned-or-14 : everyKept (partitions ps) ≡ true → some passesSystem (keptChoices (partitions ps)) ≡ true → planOf s room ≡ cond (leb (length (text ps)) room) (answered (text ps)) (refused NoRoom)
   unfolding whenAnswered
-  planned-or-14 h f = plan-rows ∙ ap listed (rows-chosen (partitions ps) h f) ∙ listed-or-14 (record { parts = ps; rows = leastRows (partitions ps) }) room
+  planned-or-14 h f = plan-rows ∙ ap listed (rows-chosen (partitions ps) h f) ∙ listed-or-14 (leastPlan ps) room

@@ -20,7 +20,7 @@ use Rattle.planner.specs.Demand3.NoneToPlan.{ten, eleven}
 use Rattle.planner.specs.Demand3.Demanded.{none-passes, fits, too-long}
 use Rattle.planner.proofs.Demand3.{plan-demanded}
 use Rattle.planner.proofs.Short.{printed-most}
-use Rattle.planner.proofs.Refusals.{unread-by-no-other}
+use Rattle.planner.proofs.Behind.{unread-by-no-other}
 use Rattle.console.specs.Printed.{programRoom}
 
 -- refusals 10 and 11 are not 14

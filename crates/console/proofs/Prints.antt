@@ -19,7 +19,7 @@ use Rattle.listing.specs.Listing.{refusedLine}
 use Rattle.listing.proofs.Lines.{refused-length}
 use Rattle.answers.specs.declared.Planned.{Planned}
 use Rattle.answers.specs.Answers.{planOf, planned, bufferAfter, PlanAnswered}
-use Rattle.planner.proofs.Demand1.{answered-fits}
+use Rattle.answers.proofs.PlanRows.{plan-fits}
 use Rattle.console.specs.declared.Printed.{Printed}
 use Rattle.console.specs.Printed.{programRoom, printedText, printedOf, printed}
 
@@ -73,7 +73,7 @@ module _ (s : List ℕ) (p : Planned) (after : List ℕ) (h : PlanAnswered s zer
   unfolding printedOf
   print-listing e =
       ap₂ (λ (l : List ℕ) (q : Planned). record { text = l; count = q .written }) buffer-is answer-is
-      ∙ done-printed (planOf s programRoom) (answered-fits s programRoom) (ap (λ (q : Planned). q .outcome) (sym answer-is) ∙ e)
+      ∙ done-printed (planOf s programRoom) (plan-fits s programRoom) (ap (λ (q : Planned). q .outcome) (sym answer-is) ∙ e)
 
   pub print-refusal : (r : Refusal) → p .outcome ≡ Refused r → (n k : ℕ) → n ≡ numberOf (p .outcome) → k ≡ placeOf (p .outcome) → n < 2 ^ 64 → k < 2 ^ 64
       → (last : List ℕ) (count : ℕ) → Written 0 (refusedLine n k) after last count → _≡_ {A = Printed} (record { text = last; count = count }) (printed (printedOf s))

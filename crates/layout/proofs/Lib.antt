@@ -5,5 +5,6 @@ pub mod Clean
 pub mod Served
 pub mod Chart
 pub mod Alike
+pub mod Words
 pub mod Placing
 pub mod Laying

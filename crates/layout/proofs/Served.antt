@@ -46,7 +46,7 @@ pub delivers-same : (P Q : ℕ) (A B : Assignment) → ((y : ℕ) → A y ≡ B 
 delivers-same P Q A B h d n = given-same A B h _ P ∙ d n
 
 -- a part's ticks, by those above it
-part-gets : (k : ℕ) (rows : List Row) → k < length rows → (y : ℕ) → partTicks rows (suc k) y ≡ firstGets (getD rows k noRow) (drop (suc k) rows) y
+pub part-gets : (k : ℕ) (rows : List Row) → k < length rows → (y : ℕ) → partTicks rows (suc k) y ≡ firstGets (getD rows k noRow) (drop (suc k) rows) y
 part-gets k [] h y = absurd (omega arith)
 part-gets zero (r ∷ rs) h y = first-has r rs y
 part-gets (suc k) (r ∷ rs) h y = later-has r rs k y ∙ part-gets k rs (omega arith) y

@@ -154,7 +154,7 @@ module _ (P Q : ℕ) (taken : Assignment) where
         go (inr l) (inl d) = inl (omega (arith, given-last gets z c, owed c))
         go (inr l) (inr d) = inr (omega (arith, given-last gets z c, given-last taken z c))
 
-    no-more : 1 ≤ P → given gets z P ≤ Q
+    pub no-more : 1 ≤ P → given gets z P ≤ Q
     no-more h =
         let f : fresh P Q z ≡ Q * 1 = ap (λ (b : Bool). Q * tick b) e in
         omega (arith, gets-few h z P (omega (arith, left-start z e)), mul-le-mul-right Q (ceil-self P h))

@@ -87,6 +87,10 @@ module _ (ps : List PlanPart) where
       greatest = λ rs c k h. shares-greatest rs k h;
     }
 
+    pub text-rows : printedRows (text-printed .shares) ≡ rows
+    unfolding text-printed
+    text-rows = rows-are
+
 -- question 14
 fits-or-14 : (ps : List PlanPart) (room : ℕ) (text : List ℕ) → Printed ps text → (b : Bool) → leb (length text) room ≡ b → Demanded ps room (cond b (answered text) (refused NoRoom))
 fits-or-14 ps room text p true e = fits p (leb-true (length text) room e)

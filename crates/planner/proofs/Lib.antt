@@ -9,6 +9,8 @@ pub mod Demand3
 pub mod Exactly
 pub mod Settled
 pub mod Short
+pub mod Behind
+pub mod ChartRefusals
 pub mod Refusals
 pub mod Numbers
 pub mod Demand2

@@ -5,13 +5,14 @@ use Rattle.planner.proofs.LocalTest.{lock-holding-settled, holding-sett
 use Rattle.planner.proofs.SystemTest.{bound-settled, row-settled, load-settled}
 use Rattle.planner.proofs.Weighing.{weighed-settled}
 use Rattle.planner.proofs.KeptList.{kept-settled}
-use Rattle.planner.proofs.Settled.{text-settled, answer-settled, plan-settled}
+use Rattle.planner.proofs.Settled.{text-settled, answer-settled, plan-settled, chart-settled}
 
 pub nothing-free : NothingFree
 nothing-free = record {
   listing = text-settled;
   answer = λ ps room a b h k. answer-settled h k;
   plan = plan-settled;
+  chart = chart-settled;
   kept = λ v a b h k. kept-settled v a b h k;
   weighed = weighed-settled;
   lock-holding = λ ts l r v w h k. lock-holding-settled h k;

@@ -6,25 +6,30 @@ use mathlib.Core.Bool.{Bool, true, false, not}
 use mathlib.Core.Logic.{_↔_}
 use mathlib.Core.List.{List, [], _∷_, List·Memᴰ}
 use lib.IntN.{pos}
-use Rattle.least.specs.Lists.{isEmpty}
+use lib.ListN.{length}
+use Rattle.least.specs.Lists.{isEmpty, some}
+use Rattle.least.specs.Each.{Each}
 use Rattle.least.specs.Fraction.{frac}
 use Rattle.least.proofs.Lists.{nth-member}
+use Rattle.least.proofs.Each.{each-map}
 use Rattle.least.proofs.Pad.{pad-none}
 use Rattle.refusal.specs.declared.Refusal.{Refusal}
 use Rattle.refusal.specs.declared.Refusal.the-variants.{NoBudget, BadHandSet}
 use Rattle.refusal.specs.declared.Outcome.{Outcome}
 use Rattle.refusal.specs.declared.Outcome.the-variants.{Done, Refused}
-use Rattle.refusal.specs.Limits.{rowLimit, keptLimit}
-use Rattle.refusal.specs.Questions.{ask, Answer, firstNo, whenDone}
+use Rattle.refusal.specs.Limits.{rowLimit, keptLimit, cycle}
+use Rattle.refusal.specs.Questions.{ask, Answer, firstNo, whenAnswered, whenDone}
 use Rattle.refusal.specs.Questions.Answer.{answered, refused}
-use Rattle.refusal.proofs.Answers.{done-not-refused}
+use Rattle.refusal.proofs.Answers.{answered-not-refused, done-not-refused}
 use Rattle.supply.specs.Supply.{supplyOf}
 use Rattle.supply.specs.Signed.{signedSupply}
 use Rattle.supply.proofs.SupplySigned.{supply-signed}
 use Rattle.task_set.specs.Blocking.{Setting}
 use Rattle.task_set.specs.Partition.{Partition}
 use Rattle.load.specs.declared.Row.{Row}
+use Rattle.load.specs.Load.{passesSystem}
 use Rattle.load.specs.Weigh.{weighQuestions, weighed, weighOf, rowsOf, structQuestions, weighRows}
+use Rattle.layout.proofs.Chart.{chart-length}
 use Rattle.candidates.specs.declared.Pair.{Pair}
 use Rattle.candidates.specs.Candidates.{pair, keptAnswer, keptList}
 use Rattle.candidates.proofs.Few.{kept-few}
@@ -32,14 +37,19 @@ use Rattle.plan_file.specs.Numbers.{PlanPart, partsOf, noPlanPart, partAt}
 use Rattle.plan_file.specs.PartLines.{linesOfPart}
 use Rattle.plan_file.proofs.PlanParts.{FinePlanPart, parts-fine}
 use Rattle.plan_file.proofs.Reading.{parts-answered-iff}
-use Rattle.answers.specs.Answers.{planned, isPartNumber, candidatesOf, candidateList, nameOf, nameBytes, supplyAnswer, supplied, keptAt}
-use Rattle.answers.specs.Choice.{Budgeted}
+use Rattle.answers.specs.Answers.{chartOf, planned, isPartNumber, candidatesOf, candidateList, nameOf, nameBytes, supplyAnswer, supplied, keptAt}
+use Rattle.answers.specs.Plan.{Plan, partitions, planFile}
+use Rattle.answers.specs.Choice.{Budgeted, BuiltFromKept}
+use Rattle.answers.proofs.KeptRows.{each-of-map}
+use Rattle.answers.proofs.PlanRows.{keptChoices, leastRows-kept, leastPlan, plan-chosen}
+use Rattle.answers.proofs.ChartRows.{chart-is}
 use Rattle.inquiries.specs.Stretch.{noName, stretched, nameStretch}
 use Rattle.planner.specs.Refusals.{PartOf, SupplyFits}
-use Rattle.planner.specs.Numbers.{KeptIs, SameNamed, NameAt, notWeighed, EveryNumber}
+use Rattle.planner.specs.Numbers.{KeptIs, SameNamed, NameAt, notWeighed, RowsAre, Charted, EveryNumber}
 use Rattle.planner.proofs.Local.{candidates-kept, candidates-local}
 use Rattle.planner.proofs.Weighing.{weighed-outcome, weighOf-is}
 use Rattle.planner.proofs.KeptList.{kept-is, no-budget-iff, some-budget}
+use Rattle.planner.proofs.Demand3.{text-printed, text-rows}
 use Rattle.planner.proofs.Names.{name-stretch}
 use Rattle.planner.proofs.Refusals.{number-iff, candidates-read, candidates-unread, name-read, supply-fits}
 
@@ -111,6 +121,31 @@ same-lines : (s u : List ℕ) (j k : ℕ) (p q : PlanPart) (d : PartOf s j p) (e
 same-lines s u j k p q d e same named =
     candidates-local s u j k (d .parts) (e .parts) (reads s j d) (reads u k e) (d .from) (d .to) (e .from) (e .to) same (λ name m. named name (subst (λ (r : PlanPart). List·Memᴰ name (r .locks)) (d .is) m))
 
+-- the rows of a plan
+kept-periods : (ps : List PlanPart) {rs : List Row} → BuiltFromKept ps rs → Each (λ p r. r .period ≡ p .numbers .period) ps rs
+kept-periods ps k = each-map (λ p r f. f .period) (each-of-map (λ p. p .numbers) ps k)
+
+least-rows-are : (ps : List PlanPart) → some passesSystem (keptChoices (partitions ps)) ≡ true → RowsAre (leastPlan ps)
+least-rows-are ps e = record { printed = text-printed ps e; rows = text-rows ps e; periods = kept-periods ps (leastRows-kept (partitions ps) e) }
+
+rows-of-plan : (s : List ℕ) (plan : Plan) → planFile s ≡ answered plan → RowsAre plan
+unfolding planFile whenAnswered
+rows-of-plan s plan e = go (partsOf s) refl
+  where
+    go : (x : Answer (List PlanPart)) → partsOf s ≡ x → RowsAre plan
+    go (answered ps) f = let c = plan-chosen ps plan (rw f at e) in subst RowsAre (sym (c .0)) (least-rows-are ps (c .1))
+    go (refused r) f = absurd (answered-not-refused (sym (rw f at e)))
+
+-- a chart
+chart-counted : (s : List ℕ) (room : ℕ) (bytes : List ℕ) → chartOf s room ≡ answered bytes → planned (chartOf s room) ≡ record { outcome = Done; written = cycle }
+unfolding planned
+chart-counted s room bytes e =
+    let c = chart-is room s bytes e in
+    ap planned e ∙ (λ i. record { outcome = Done; written = (ap (λ (l : List ℕ). length l) (c .2) ∙ chart-length (c .0 .rows)) i })
+
+chart-charted : (s : List ℕ) (room : ℕ) (bytes : List ℕ) → chartOf s room ≡ answered bytes → Charted s bytes
+chart-charted s room bytes e = let c = chart-is room s bytes e in record { plan = c .0; planned = c .1; is = c .2 }
+
 -- refusals
 weighed-refused : (o : Outcome) (rows : List Row) (r : Refusal) → weighed o rows .outcome ≡ Refused r → weighed o rows ≡ notWeighed r
 unfolding weighed
@@ -130,6 +165,9 @@ every-number = record {
   name = name-bytes;
   stretch = name-is;
   plan = λ s room text e. ap planned e;
+  rows = rows-of-plan;
+  chart-count = chart-counted;
+  chart-bytes = chart-charted;
   refused-supply = λ P Q t r e. ap supplied e;
   refused-weigh = λ rows r e. weighed-refused (firstNo (weighQuestions rows)) rows r e;
   refused-weigh-struct = λ rows r e. weighed-refused (firstNo (structQuestions rows)) (rowsOf rows) r e;
@@ -137,4 +175,5 @@ every-number = record {
   refused-name = λ s k r e. ap nameBytes e;
   refused-stretch = λ s k r e. rw e refl;
   refused-plan = λ s room r e. ap planned e;
+  refused-chart = λ s room r e. ap planned e;
 }

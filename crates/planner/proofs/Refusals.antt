@@ -4,8 +4,8 @@ use Prim.Native.Nat.{ℕ, _≤_, _<_}
 use native.Mathlib.Omega.{arith}
 use mathlib.Core.Path.{_≡_, refl, sym, ap, _∙_, subst}
 use mathlib.Core.Bool.{Bool, true, false, not, cond, _&&_, false≢true}
-use mathlib.Core.Logic.{inl, inr, _↔_}
-use mathlib.Core.List.{List, [], _∷_, _++_}
+use mathlib.Core.Logic.{_↔_}
+use mathlib.Core.List.{List, [], _∷_}
 use borrow.Author.Tests.{leb-true, leb-false, le-leb}
 use lib.Dec.{leb}
 use lib.ListN.{length}
@@ -13,7 +13,6 @@ use Rattle.least.specs.Lists.{isEmpty, some}
 use Rattle.least.proofs.Lists.{and-iff}
 use Rattle.refusal.specs.declared.Refusal.{Refusal}
 use Rattle.refusal.specs.declared.Refusal.the-variants.{NoBudget, BadHandSet, NoRoom}
-use Rattle.refusal.specs.declared.Outcome.{Outcome}
 use Rattle.refusal.specs.declared.Outcome.the-variants.{Done, Refused}
 use Rattle.refusal.specs.Limits.{numberLimit, rowLimit}
 use Rattle.refusal.specs.Number.{isOfTheFile}
@@ -21,7 +20,7 @@ use Rattle.refusal.specs.Questions.{Question, ask, Answer, firstNo, whenAnswere
 use Rattle.refusal.specs.Questions.Answer.{answered, refused}
 use Rattle.refusal.specs.FirstNo.{FirstNo}
 use Rattle.refusal.proofs.Answers.{answered-not-refused, answer-same-value, answer-same-refusal, done-not-refused}
-use Rattle.refusal.proofs.Questions.{refused-iff, asked-iff, refused-before, yes-next, no-answers}
+use Rattle.refusal.proofs.Questions.{refused-iff, asked-iff}
 use Rattle.supply.specs.Supply.{supplyOf}
 use Rattle.load.specs.declared.Row.{Row}
 use Rattle.load.specs.declared.Rows.{Rows}
@@ -29,45 +28,21 @@ use Rattle.load.specs.declared.Weighed.{Weighed}
 use Rattle.load.specs.Load.{passesSystem}
 use Rattle.load.specs.Weigh.{weighQuestions, weighed, weighOf, rowsOf, structQuestions, weighRows}
 use Rattle.load.proofs.Weighing.{weigh-few, weigh-many}
-use Rattle.selection.specs.Questions.{choiceQuestions}
 use Rattle.plan_file.specs.Numbers.{PlanPart, partAt, partsOf}
-use Rattle.plan_file.proofs.Reading.{read-refused-iff, parts-refused-iff, parts-answered-iff}
-use Rattle.plan_file.proofs.Refusals.{read-refused-of-file}
+use Rattle.plan_file.proofs.Reading.{parts-answered-iff}
 use Rattle.answers.specs.Answers.{planOf, isPartNumber, candidatesOf, nameOf, supplyAnswer, supplied, inRoom, listedIn, keptAt}
 use Rattle.answers.specs.Choice.{WithoutBudget}
-use Rattle.answers.specs.Plan.{partitions, offered, chosenRows, chosenPlan, planFile}
-use Rattle.answers.proofs.PlanRows.{everyKept, keptChoices, text, plan-unread, refused-10, refused-11, planned-or-14}
+use Rattle.answers.specs.Plan.{Plan, partitions, planFile}
+use Rattle.answers.proofs.InTurn.{asked-in-turn, followed}
+use Rattle.answers.proofs.PlanRows.{everyKept, keptChoices, leastPlan, chosen-asked, text, plan-unread, refused-10, refused-11, planned-or-14}
 use Rattle.planner.specs.Refusals.{RefusedBehind, PartOf, NotAPart, SupplyFits, EveryRefusal, planQuestions}
 use Rattle.planner.proofs.Weighing.{weighed-outcome, not-iff, wrong-count-iff, bad-row-iff, no-time-iff}
 use Rattle.planner.proofs.KeptList.{no-budget-iff}
-
--- an operation that reads a file, asks about its parts, and then answers
-module _ {A : Type 0} (s : List ℕ) (questions : List PlanPart → List Question) (value : List PlanPart → A) (r : Refusal) where
-  abbrev answer : Answer (List PlanPart) → Answer A
-  answer x = whenAnswered x (λ parts. whenDone (firstNo (questions parts)) (answered (value parts)))
-
-  behind : (x : Answer (List PlanPart)) → partsOf s ≡ x → answer x ≡ refused r → RefusedBehind s questions r
-  unfolding whenAnswered
-  behind (answered parts) e h = inr (parts, parts-answered-iff s parts .0 e, asked-iff (questions parts) (value parts) r .0 h)
-  behind (refused x) e h = inl (parts-refused-iff s r .0 (e ∙ ap refused (answer-same-refusal h)))
-
-  back : RefusedBehind s questions r → answer (partsOf s) ≡ refused r
-  unfolding whenAnswered
-  back (inl d) = ap answer (parts-refused-iff s r .1 d)
-  back (inr d) = ap answer (parts-answered-iff s (d .0) .1 (d .1)) ∙ asked-iff (questions (d .0)) (value (d .0)) r .1 (d .2)
-
-  refused-behind-iff : (answer (partsOf s) ≡ refused r) ↔ RefusedBehind s questions r
-  refused-behind-iff = (behind (partsOf s) refl, back)
+use Rattle.planner.proofs.Behind.{refused-behind-iff, unread-by-no-other}
+use Rattle.planner.proofs.ChartRefusals.{chart-iff, unplanned-alike, out-of-cycle-iff, no-room-for-chart-iff}
 
 weighed-iff : (qs : List Question) (rows : List Row) (r : Refusal) → (weighed (firstNo qs) rows .outcome ≡ Refused r) ↔ FirstNo qs r
 weighed-iff qs rows r = let o = weighed-outcome (firstNo qs) rows in ((λ e. refused-iff qs r .0 (sym o ∙ e)), λ f. o ∙ refused-iff qs r .1 f)
-
--- a file is refused by the questions about it only
-pub unread-of-file : (s : List ℕ) (r : Refusal) → partsOf s ≡ refused r → isOfTheFile r ≡ true
-unread-of-file s r e = read-refused-of-file s r (read-refused-iff s r .1 (parts-refused-iff s r .0 e))
-
-pub unread-by-no-other : (s : List ℕ) (r x : Refusal) → partsOf s ≡ refused r → isOfTheFile x ≡ false → r ≡ x → ⊥
-unread-by-no-other s r x e l q = false≢true (sym l ∙ sym (ap isOfTheFile q) ∙ unread-of-file s r e)
 
 unread : {A : Type 0} (s : List ℕ) (r x : Refusal) → partsOf s ≡ refused r → _≡_ {A = Answer A} (refused r) (refused x) → isOfTheFile x ≡ false → ⊥
 unread s r x e h l = unread-by-no-other s r x e l (answer-same-refusal h)
@@ -244,43 +219,23 @@ many-refused : (rows : Rows) → rowLimit < rows .count → weighRows rows .outc
 unfolding weighed
 many-refused rows h = ap (λ (w : Weighed). w .outcome) (weigh-many rows h)
 
--- questions 10, 11 and 14 of a plan, asked one behind another
-done-before : (qs more : List Question) → firstNo qs ≡ Done → firstNo (qs ++ more) ≡ firstNo more
-unfolding firstNo
-done-before [] more e = refl
-done-before (q ∷ qs) more e = go (q .yes) refl (done-before qs more)
+-- a plan asks its questions at once
+plan-at-once : (s : List ℕ) (room : ℕ) → planOf s room ≡ whenAnswered (partsOf s) (λ ps. whenDone (firstNo (planQuestions room ps)) (answered (text ps)))
+unfolding planOf planFile inRoom whenAnswered
+plan-at-once s room = go (partsOf s) refl
   where
-    go : (b : Bool) → q .yes ≡ b → (firstNo qs ≡ Done → firstNo (qs ++ more) ≡ firstNo more) → firstNo (q ∷ (qs ++ more)) ≡ firstNo more
-    go true f ih = yes-next q (qs ++ more) f ∙ ih (sym (yes-next q qs f) ∙ e)
-    go false f ih = absurd (done-not-refused (sym e ∙ no-answers q qs f))
+    go : (x : Answer (List PlanPart)) → partsOf s ≡ x → planOf s room ≡ whenAnswered (partsOf s) (λ ps. whenDone (firstNo (planQuestions room ps)) (answered (text ps)))
+    go (answered ps) e = rw e (ap (λ (a : Answer Plan). whenAnswered a (listedIn room)) (chosen-asked ps) ∙ followed _ (answered (leastPlan ps)) (listedIn room) ∙ asked-in-turn _ _ _)
+    go (refused r) e = rw e refl
 
-module _ (s : List ℕ) (room : ℕ) where
-  at-once : (ps : List PlanPart) → whenAnswered (chosenPlan ps) (listedIn room) ≡ whenDone (firstNo (planQuestions room ps)) (answered (text ps))
-  unfolding chosenPlan chosenRows inRoom whenAnswered whenDone
-  at-once ps = go (firstNo (choiceQuestions (offered (partitions ps)))) refl
-    where
-      more : List Question
-      more = ask NoRoom (leb (length (text ps)) room) ∷ []
-
-      go : (o : Outcome) → firstNo (choiceQuestions (offered (partitions ps))) ≡ o → whenAnswered (chosenPlan ps) (listedIn room) ≡ whenDone (firstNo (planQuestions room ps)) (answered (text ps))
-      go Done e = rw (e, done-before (choiceQuestions (offered (partitions ps))) more e) refl
-      go (Refused r) e = rw (e, refused-before (choiceQuestions (offered (partitions ps))) more r e) refl
-
-  plan-at-once : planOf s room ≡ whenAnswered (partsOf s) (λ ps. whenDone (firstNo (planQuestions room ps)) (answered (text ps)))
-  unfolding planOf planFile whenAnswered
-  plan-at-once = go (partsOf s) refl
-    where
-      go : (x : Answer (List PlanPart)) → partsOf s ≡ x → planOf s room ≡ whenAnswered (partsOf s) (λ ps. whenDone (firstNo (planQuestions room ps)) (answered (text ps)))
-      go (answered ps) e = rw e (at-once ps)
-      go (refused r) e = rw e refl
-
-  plan-iff : (r : Refusal) → (planOf s room ≡ refused r) ↔ RefusedBehind s (planQuestions room) r
-  plan-iff r = let iff = refused-behind-iff s (planQuestions room) text r in ((λ e. iff .0 (sym plan-at-once ∙ e)), λ d. plan-at-once ∙ iff .1 d)
+plan-iff : (s : List ℕ) (room : ℕ) (r : Refusal) → (planOf s room ≡ refused r) ↔ RefusedBehind s (planQuestions room) r
+plan-iff s room r = let iff = refused-behind-iff s (planQuestions room) text r in ((λ e. iff .0 (sym (plan-at-once s room) ∙ e)), λ d. plan-at-once s room ∙ iff .1 d)
 
 pub every-refusal : EveryRefusal
 unfolding candidatesOf nameOf weighOf weighRows supplyAnswer
 every-refusal = record {
   plan = plan-iff;
+  chart = chart-iff;
   candidates = λ s k r. refused-behind-iff s _ _ r;
   name = λ s k r. refused-behind-iff s _ _ r;
   weigh = λ rows r. weighed-iff (weighQuestions rows) rows r;
@@ -296,4 +251,7 @@ every-refusal = record {
   weigh-struct-12 = many-refused;
   weigh-struct-rows = weigh-few;
   plan-14 = no-room-iff;
+  chart-11 = unplanned-alike;
+  chart-19 = out-of-cycle-iff;
+  chart-14 = no-room-for-chart-iff;
 }

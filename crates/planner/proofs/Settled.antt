@@ -1,10 +1,11 @@
 -- Demand 3 leaves nothing free: two listings that satisfy `Printed` for the same parts are equal, and so are two answers that satisfy `Demanded` for the same parts and
--- room. An operation that meets demand 3 answers a readable file just as `plan` does, and one that meets demand 1 too, every file.
+-- room. An operation that meets demand 3 answers a readable file just as `plan` does, and one that meets demand 1 too, every file. Demand 2 leaves nothing of a chart free.
 -- Assumes nothing.
 use Prim.Native.Nat.{ℕ, _≤_}
 use native.Mathlib.Omega.{arith}
 use native.Mathlib.Decide.{decLe}
 use mathlib.Core.Path.{_≡_, refl, sym, ap, ap₂, subst, _∙_}
+use mathlib.Core.Logic.{_↔_}
 use mathlib.Core.List.{List, _∷_, map}
 use lib.ListN.{length}
 use Rattle.least.specs.Each.{Each}
@@ -13,23 +14,30 @@ use Rattle.refusal.specs.declared.Refusal.{Refusal}
 use Rattle.refusal.specs.declared.Refusal.the-variants.{NoBudget}
 use Rattle.refusal.specs.Questions.{Answer}
 use Rattle.refusal.specs.Questions.Answer.{answered, refused}
+use Rattle.refusal.proofs.Answers.{answer-same-value}
 use Rattle.task_set.specs.Partition.{Partition}
 use Rattle.load.specs.declared.Row.{Row}
 use Rattle.load.specs.Load.{boundsOf}
+use Rattle.layout.specs.Layout.{chart}
 use Rattle.candidates.specs.Candidates.{pair, shownCeiling}
 use Rattle.plan_file.specs.Numbers.{PlanPart, partsOf}
 use Rattle.plan_file.proofs.Reading.{parts-refused-iff}
 use Rattle.listing.specs.Listing.{Share, ceilingsUnder, listingOf}
 use Rattle.answers.specs.declared.Planned.{Planned}
-use Rattle.answers.specs.Answers.{HandedOver, PlanAnswered}
+use Rattle.answers.specs.Answers.{chartOf, HandedOver, PlanAnswered}
+use Rattle.answers.specs.Plan.{Plan}
 use Rattle.answers.specs.Choice.{FromKept}
 use Rattle.answers.proofs.KeptRows.{map-of-each}
 use Rattle.answers.proofs.PlanRows.{plan-unread}
+use Rattle.planner.specs.Refusals.{RefusedBehind, chartQuestions}
+use Rattle.planner.specs.Numbers.{Charted}
 use Rattle.planner.specs.Demand1.{Demand1}
 use Rattle.planner.specs.Demand3.{printedRows, PrintedShare, Printed, NoBudgetAt, NoneToPlan, Demanded, Demand3}
 use Rattle.planner.specs.Demand3.NoneToPlan.{ten, eleven}
 use Rattle.planner.specs.Demand3.Demanded.{none-passes, fits, too-long}
 use Rattle.planner.proofs.Demand3.{plan-demanded}
+use Rattle.planner.proofs.Refusals.{every-refusal}
+use Rattle.planner.proofs.Numbers.{every-number}
 use Rattle.planner.proofs.Exactly.{none-to-plan, printed-passes}
 
 -- two kept rows of a part with the same X are one
@@ -116,4 +124,17 @@ plan-settled Promise one three s before r after h = go (partsOf s) refl
   where
     go : (x : Answer (List PlanPart)) → partsOf s ≡ x → PlanAnswered s before r after
     go (answered ps) e = demand-3-settled Promise three s before r after ps e h
-    go (refused x) e = subst (λ (a : Answer (List ℕ)). HandedOver a before r after) (sym (plan-unread s x e (length before))) (one .unread s before r after x h (parts-refused-iff s x .0 e))
+    go (refused x) e = subst (λ (a : Answer (List ℕ)). HandedOver a before r after) (sym (plan-unread s x e (length before))) (one .plan .unread s before r after x h (parts-refused-iff s x .0 e))
+
+-- demand 2 leaves nothing of a chart free
+pub chart-settled : (s : List ℕ) (room : ℕ) (a : Answer (List ℕ)) → ((r : Refusal) → (a ≡ refused r) ↔ RefusedBehind s (chartQuestions room) r) →
+    ((bytes : List ℕ) → a ≡ answered bytes → Charted s bytes) → a ≡ chartOf s room
+chart-settled s room (refused r) iff are = sym (every-refusal .chart s room r .1 (iff r .0 refl))
+chart-settled s room (answered bytes) iff are = go (chartOf s room) refl
+  where
+    go : (x : Answer (List ℕ)) → chartOf s room ≡ x → answered bytes ≡ chartOf s room
+    go (answered others) e =
+        let c = are bytes refl in
+        let d = every-number .chart-bytes s room others e in
+        ap answered (c .is ∙ ap (λ (p : Plan). chart (p .rows)) (answer-same-value (sym (c .planned) ∙ d .planned)) ∙ sym (d .is)) ∙ sym e
+    go (refused r) e = iff r .1 (every-refusal .chart s room r .0 e) ∙ sym e

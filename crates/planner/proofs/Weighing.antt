@@ -52,11 +52,11 @@ module _ {A : Type 0} (d : A) where
 
 -- the first element that does not pass a test
 module _ {A : Type 0} (d : A) (test : A → Bool) (xs : List A) where
-  record FailsAt (j : ℕ) : Type 0 where
-    from : 1 ≤ j
-    to : j ≤ length xs
-    fails : test (nthOr d j xs) ≡ false
-    before : (i : ℕ) → 1 ≤ i → i < j → test (nthOr d i xs) ≡ true
+  pub record FailsAt (j : ℕ) : Type 0 where
+    pub from : 1 ≤ j
+    pub to : j ≤ length xs
+    pub fails : test (nthOr d j xs) ≡ false
+    pub before : (i : ℕ) → 1 ≤ i → i < j → test (nthOr d i xs) ≡ true
 
   first-some : every test xs ≡ false → 1 ≤ firstOf (λ x. not (test x)) xs
   first-some e = go (firstOf (λ x. not (test x)) xs) refl
@@ -65,12 +65,12 @@ module _ {A : Type 0} (d : A) (test : A → Bool) (xs : List A) where
       go zero z = absurd (false≢true (sym e ∙ first-every test xs z))
       go (suc j) z = omega arith
 
-  fails-at : every test xs ≡ false → FailsAt (firstOf (λ x. not (test x)) xs)
+  pub fails-at : every test xs ≡ false → FailsAt (firstOf (λ x. not (test x)) xs)
   fails-at e =
       let f = first-at (λ x. not (test x)) xs (first-some e) in
       record { from = f .some; to = f .most; fails = not-true _ (f .passes d); before = λ i a b. not-false _ (f .before d i a b) }
 
-  at-fails : (j : ℕ) → FailsAt j → (every test xs ≡ false) × (firstOf (λ x. not (test x)) xs ≡ j)
+  pub at-fails : (j : ℕ) → FailsAt j → (every test xs ≡ false) × (firstOf (λ x. not (test x)) xs ≡ j)
   at-fails zero f = absurd (omega arith)
   at-fails (suc k) f =
       let l : k < length xs = omega arith in

@@ -2,8 +2,10 @@
 -- one numbered refusal, by the fixed order of questions, and a refusal writes nothing into the lent buffer. In which case each refusal comes is demand 2.
 --   OfTheFile r     == a refusal by a question of reading: 1 to 9
 --   OfThePlan r     == such a refusal, or one by questions 10, 11 or 14
---   Demand1 Promise == demand 1 of the operations, of which a plan promises `Promise` of the file, the lent bytes before, the result and the lent bytes
---                      after; `plan` promises `PlanAnswered`
+--   OfTheChart r    == such a refusal, or one by questions 10, 11, 19 or 14
+--   LentBytes Promise Of == demand 1 of an operation that writes into lent bytes: it promises `Promise` of the file, the lent bytes before, the result
+--                      and the lent bytes after, and its refusals are among `Of`
+--   Demand1 Promise == demand 1 of the operations, of which a plan promises `Promise`; `plan` promises `PlanAnswered`, and `chart` `ChartAnswered`
 -- Assumes nothing.
 use Prim.Native.Nat.{ℕ, _≤_}
 use mathlib.Core.Path.{_≡_}
@@ -12,7 +14,7 @@ use mathlib.Core.Logic.{_⊎_}
 use mathlib.Core.List.{List}
 use lib.ListN.{length, drop}
 use Rattle.refusal.specs.declared.Refusal.{Refusal}
-use Rattle.refusal.specs.declared.Refusal.the-variants.{NoBudget, NoChoice, BadHandSet, NoTime, NoRoom}
+use Rattle.refusal.specs.declared.Refusal.the-variants.{NoBudget, NoChoice, BadHandSet, NoTime, NoRoom, OutOfCycle}
 use Rattle.refusal.specs.declared.Outcome.the-variants.{Refused}
 use Rattle.refusal.specs.Number.{isOfTheFile}
 use Rattle.refusal.specs.Questions.Answer.{answered, refused}
@@ -21,7 +23,7 @@ use Rattle.load.specs.declared.Rows.{Rows}
 use Rattle.load.specs.Weigh.{weighOf, weighRows}
 use Rattle.plan_file.specs.Statement.{RefusedAt}
 use Rattle.answers.specs.declared.Planned.{Planned}
-use Rattle.answers.specs.Answers.{HandedOver, candidatesOf, nameOf, supplyAnswer}
+use Rattle.answers.specs.Answers.{HandedOver, ChartAnswered, candidatesOf, nameOf, supplyAnswer}
 
 abbrev pub OfTheFile : Refusal → Type 0
 OfTheFile r = isOfTheFile r ≡ true
@@ -29,16 +31,25 @@ OfTheFile r = isOfTheFile r ≡ true
 abbrev pub OfThePlan : Refusal → Type 0
 OfThePlan r = OfTheFile r ⊎ (((j : ℕ) × (r ≡ NoBudget j)) ⊎ ((r ≡ NoChoice) ⊎ (r ≡ NoRoom)))
 
-pub record Demand1 (Promise : List ℕ → List ℕ → Planned → List ℕ → Type 0) : Type 0 where
-  -- a plan hands over bytes that fit the lent ones, or a refusal of the plan; which bytes and which refusal is demand 3
-  pub plan : (s before : List ℕ) (r : Planned) (after : List ℕ) → Promise s before r after →
-      ((text : List ℕ) × (length text ≤ length before) × HandedOver (answered text) before r after) ⊎ ((x : Refusal) × OfThePlan x × HandedOver (refused x) before r after)
+abbrev pub OfTheChart : Refusal → Type 0
+OfTheChart r = OfTheFile r ⊎ (((j : ℕ) × (r ≡ NoBudget j)) ⊎ ((r ≡ NoChoice) ⊎ (((k : ℕ) × (r ≡ OutOfCycle k)) ⊎ (r ≡ NoRoom))))
+
+pub record LentBytes (Promise : List ℕ → List ℕ → Planned → List ℕ → Type 0) (Of : Refusal → Type 0) : Type 0 where
+  -- bytes that fit the lent ones are handed over, or a refusal; which bytes and which refusal is in demands 2 and 3
+  pub complete : (s before : List ℕ) (r : Planned) (after : List ℕ) → Promise s before r after →
+      ((text : List ℕ) × (length text ≤ length before) × HandedOver (answered text) before r after) ⊎ ((x : Refusal) × Of x × HandedOver (refused x) before r after)
   -- a file that questions 1 to 9 refuse gets that refusal, with its place
   pub unread : (s before : List ℕ) (r : Planned) (after : List ℕ) (x : Refusal) → Promise s before r after → RefusedAt s x → HandedOver (refused x) before r after
   -- a refusal writes nothing into the lent buffer
   pub untouched : (s before : List ℕ) (r : Planned) (after : List ℕ) (x : Refusal) → Promise s before r after → r .outcome ≡ Refused x → after ≡ before
-  -- a plan writes no byte after those that it counts
+  -- no byte after those that are counted is written
   pub others : (s before : List ℕ) (r : Planned) (after : List ℕ) → Promise s before r after → drop (r .written) after ≡ drop (r .written) before
+
+pub record Demand1 (Promise : List ℕ → List ℕ → Planned → List ℕ → Type 0) : Type 0 where
+  -- a plan: refused only by questions 1 to 9, by 10, 11 or 14
+  pub plan : LentBytes Promise OfThePlan
+  -- a chart: by these, or by 19
+  pub chart : LentBytes ChartAnswered OfTheChart
   -- candidates: refused only by questions 1 to 9, by 12, or by 10 for that part
   pub candidates : (s : List ℕ) (k : ℕ) (r : Refusal) → candidatesOf s k ≡ refused r → OfTheFile r ⊎ ((r ≡ BadHandSet 0) ⊎ (r ≡ NoBudget k))
   -- a name: by questions 1 to 9, or by 12

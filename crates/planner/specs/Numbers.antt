@@ -3,7 +3,9 @@
 --   KeptIs v a      == a has the kept pairs of the partition v, in falling X, up to 16, and their count
 --   SameNamed d e   == of two parts, another part of its file names each lock of the one in both files or in none
 --   NameAt s k p n  == n is the stretch of the name of part k, which is p, on its `part` line
---   EveryNumber     == the numbers of the five operations, answered and refused
+--   RowsAre plan    == the rows of the plan are those that its listing prints, for each part one with the part's period
+--   Charted s bytes == the file s is planned, and these bytes are the chart of its plan's rows
+--   EveryNumber     == the numbers of the six operations, answered and refused
 -- Assumes nothing.
 use Prim.Native.Nat.{ℕ, _≤_, _<_}
 use mathlib.Core.Path.{_≡_}
@@ -12,10 +14,11 @@ use mathlib.Core.List.{List, [], List·Memᴰ}
 use lib.ListN.{length, replicate}
 use lib.IntN.{pos}
 use Rattle.least.specs.Lists.{nthOr, pad}
+use Rattle.least.specs.Each.{Each}
 use Rattle.least.specs.Fraction.{frac}
 use Rattle.refusal.specs.declared.Refusal.{Refusal}
 use Rattle.refusal.specs.declared.Outcome.the-variants.{Done, Refused}
-use Rattle.refusal.specs.Limits.{rowLimit, keptLimit}
+use Rattle.refusal.specs.Limits.{rowLimit, keptLimit, cycle}
 use Rattle.refusal.specs.Questions.Answer.{answered, refused}
 use Rattle.stretch.specs.Stretch.{bytesOf}
 use Rattle.supply.specs.Signed.{signedSupply}
@@ -25,6 +28,7 @@ use Rattle.load.specs.declared.Row.{Row}
 use Rattle.load.specs.declared.Rows.{Rows}
 use Rattle.load.specs.declared.Weighed.{Weighed}
 use Rattle.load.specs.Weigh.{weighOf, weighRows}
+use Rattle.layout.specs.Layout.{chart}
 use Rattle.candidates.specs.declared.Pair.{Pair}
 use Rattle.candidates.specs.declared.Kept.{Kept}
 use Rattle.candidates.specs.Candidates.{pair}
@@ -33,10 +37,12 @@ use Rattle.plan_file.specs.Stretches.{noSpan, nameSpans}
 use Rattle.plan_file.specs.Numbers.{PlanPart}
 use Rattle.plan_file.specs.PartLines.{linesOfPart}
 use Rattle.plan_file.specs.Statement.{NamedByAnother}
-use Rattle.answers.specs.Answers.{planOf, planned, candidatesOf, candidateList, nameOf, nameBytes, supplyAnswer, supplied}
+use Rattle.answers.specs.Answers.{planOf, chartOf, planned, candidatesOf, candidateList, nameOf, nameBytes, supplyAnswer, supplied}
+use Rattle.answers.specs.Plan.{Plan, planFile, planText}
 use Rattle.answers.specs.Choice.{Budgeted}
 use Rattle.inquiries.specs.declared.NameStretch.{NameStretch}
 use Rattle.inquiries.specs.Stretch.{nameStretch}
+use Rattle.planner.specs.Demand3.{printedRows, Printed}
 use Rattle.planner.specs.Weighing.{WeighedIs}
 use Rattle.planner.specs.Refusals.{PartOf, SupplyFits}
 
@@ -67,6 +73,18 @@ notWeighed r = record { outcome = Refused r; bounds = replicate rowLimit (frac 0
 abbrev pub SameNamed : {s u : List ℕ} {j k : ℕ} {p q : PlanPart} → PartOf s j p → PartOf u k q → Type 0
 SameNamed {j = j} {k = k} {p = p} d e = (name : List ℕ) → List·Memᴰ name (p .locks) → NamedByAnother (d .parts) j name ↔ NamedByAnother (e .parts) k name
 
+pub record RowsAre (plan : Plan) : Type 0 where
+  -- what the listing prints, by demand 3
+  pub printed : Printed (plan .parts) (planText plan)
+  pub rows : printedRows (printed .shares) ≡ plan .rows
+  -- in file order, each with the part's period
+  pub periods : Each (λ p r. r .period ≡ p .numbers .period) (plan .parts) (plan .rows)
+
+pub record Charted (s bytes : List ℕ) : Type 0 where
+  pub plan : Plan
+  pub planned : planFile s ≡ answered plan
+  pub is : bytes ≡ chart (plan .rows)
+
 pub record EveryNumber : Type 0 where
   -- the supply of (P,Q) in t ticks, by the paper's formula in signed numbers
   pub supply : (P Q t : ℕ) → SupplyFits P Q t → (x : ℕ) × (supplied (supplyAnswer P Q t) ≡ record { outcome = Done; ticks = x }) × (signedSupply (pos P) (pos Q) (pos t) ≡ pos x)
@@ -84,6 +102,11 @@ pub record EveryNumber : Type 0 where
   pub stretch : (s : List ℕ) (k : ℕ) (p : PlanPart) → PartOf s k p → NameAt s k p (nameStretch s k)
   -- a plan counts the bytes it wrote
   pub plan : (s : List ℕ) (room : ℕ) (text : List ℕ) → planOf s room ≡ answered text → planned (planOf s room) ≡ record { outcome = Done; written = length text }
+  -- the rows of a plan, of which the chart is made
+  pub rows : (s : List ℕ) (p : Plan) → planFile s ≡ answered p → RowsAre p
+  -- a chart counts 720 bytes, and they are the chart of the plan's rows
+  pub chart-count : (s : List ℕ) (room : ℕ) (bytes : List ℕ) → chartOf s room ≡ answered bytes → planned (chartOf s room) ≡ record { outcome = Done; written = cycle }
+  pub chart-bytes : (s : List ℕ) (room : ℕ) (bytes : List ℕ) → chartOf s room ≡ answered bytes → Charted s bytes
   -- a refusal consists of its number and its place, with every other number of the answer zero
   pub refused-supply : (P Q t : ℕ) (r : Refusal) → supplyAnswer P Q t ≡ refused r → supplied (supplyAnswer P Q t) ≡ record { outcome = Refused r; ticks = 0 }
   pub refused-weigh : (rows : List Row) (r : Refusal) → weighOf rows .outcome ≡ Refused r → weighOf rows ≡ notWeighed r
@@ -93,3 +116,4 @@ pub record EveryNumber : Type 0 where
   pub refused-name : (s : List ℕ) (k : ℕ) (r : Refusal) → nameOf s k ≡ refused r → nameBytes (nameOf s k) ≡ []
   pub refused-stretch : (s : List ℕ) (k : ℕ) (r : Refusal) → nameOf s k ≡ refused r → nameStretch s k ≡ record { outcome = Refused r; span = record { start = 0; len = 0 } }
   pub refused-plan : (s : List ℕ) (room : ℕ) (r : Refusal) → planOf s room ≡ refused r → planned (planOf s room) ≡ record { outcome = Refused r; written = 0 }
+  pub refused-chart : (s : List ℕ) (room : ℕ) (r : Refusal) → chartOf s room ≡ refused r → planned (chartOf s room) ≡ record { outcome = Refused r; written = 0 }

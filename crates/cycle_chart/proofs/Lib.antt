@@ -1,0 +1,3 @@
+pub mod Sentences
+pub mod Operation
+pub mod CycleChart

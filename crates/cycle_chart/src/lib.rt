@@ -1,0 +1,1 @@
+// Request M-109, a chart of one cycle, as one statement: definitions and proofs only.
