@@ -55,7 +55,8 @@ static int read_plan(size_t length) {
     if (chart.number == 0)
         chart = planner_plan(file, length, (uint8_t *)listing, PLANNER_ROOM);
     if (chart.number != 0) {
-        fprintf(stderr, "chart: refused with %" PRIu64 " at %" PRIu64 ": %s\n", chart.number, chart.place, planner_refusal_text(chart.number));
+        fprintf(stderr, "chart: refused with %" PRIu64 " at %" PRIu64 ": %s\n", chart.number, chart.place,
+                planner_refusal_text(chart.number));
         return 0;
     }
     for (const char *line = listing; count < PLANNER_MOST_ROWS && line[0] != 0; line = strchr(line, '\n') + 1)
@@ -109,9 +110,10 @@ static void draw_bars(unsigned part, unsigned first, unsigned y) {
         }
         if (ticks[from] != part)
             continue;
-        printf("<rect x=\"%u\" y=\"%u\" width=\"%u\" height=\"%d\" class=\"bar\"/>\n", LEFT + (from - first) * TICK, y + (ROW - BAR) / 2, (to - from) * TICK, BAR);
+        unsigned x = LEFT + (from - first) * TICK, width = (to - from) * TICK;
+        printf("<rect x=\"%u\" y=\"%u\" width=\"%u\" height=\"%d\" class=\"bar\"/>\n", x, y + (ROW - BAR) / 2, width, BAR);
         if (part != 0 && to - from > 2)
-            printf("<text x=\"%u\" y=\"%u\" class=\"run\" fill=\"%s\">%u</text>\n", LEFT + (from + to - 2 * first) * TICK / 2, y + ROW / 2 + 4, letters[colour], to - from);
+            printf("<text x=\"%u\" y=\"%u\" class=\"run\" fill=\"%s\">%u</text>\n", x + width / 2, y + ROW / 2 + 4, letters[colour], to - from);
     }
     printf("</g>\n");
 }
@@ -146,12 +148,14 @@ static void draw_strip(unsigned first, unsigned top) {
 
 static void draw(void) {
     unsigned width = LEFT + STRIP * TICK + RIGHT, height = TITLE + PLANNER_CYCLE / STRIP * strip_height();
-    printf("<svg xmlns=\"http://www.w3.org/2000/svg\" viewBox=\"0 0 %u %u\" width=\"%u\" height=\"%u\" font-family=\"sans-serif\" font-size=\"15\">\n", width, height, width, height);
+    printf("<svg xmlns=\"http://www.w3.org/2000/svg\" viewBox=\"0 0 %u %u\" width=\"%u\" height=\"%u\" ", width, height, width, height);
+    printf("font-family=\"sans-serif\" font-size=\"15\">\n");
     printf("<title>Which part has which tick of one cycle</title>\n");
     printf("<style>.title{font-size:24px;font-weight:bold}.name{font-weight:bold}.share{text-anchor:end}.tick{text-anchor:middle;font-size:13px}"
            ".run{text-anchor:middle;font-size:12px}.bar{stroke:#000;stroke-width:.8}.start{stroke:#000;stroke-width:1.6}"
            ".grid{stroke:#bbb}.fine{stroke:#e4e4e4}.row{fill:#f3f3f3}</style>\n");
-    printf("<defs><pattern id=\"free\" width=\"6\" height=\"6\" patternUnits=\"userSpaceOnUse\"><path d=\"M0 6L6 0\" stroke=\"#777\"/></pattern></defs>\n");
+    printf("<defs><pattern id=\"free\" width=\"6\" height=\"6\" patternUnits=\"userSpaceOnUse\">"
+           "<path d=\"M0 6L6 0\" stroke=\"#777\"/></pattern></defs>\n");
     printf("<rect width=\"%u\" height=\"%u\" fill=\"#fff\"/>\n", width, height);
     draw_title();
     for (unsigned strip = 0; strip < PLANNER_CYCLE / STRIP; strip++)

@@ -1,9 +1,10 @@
 //! Plans one processor that several partitions share, where the partitions also share locks: the
 //! safe interface to a library whose every answer is proved (the repository's README.md).
 //!
-//! Six operations: [`plan`] and [`chart`] (or [`plan_into`] and [`chart_into`], which do not
-//! allocate), [`candidates`], [`name`], [`weigh`] and [`supply`]. Each takes any bytes and any numbers and gives its answer or a
-//! [`Refusal`]. Nothing is kept between calls, so they may be called from any threads at once.
+//! Six operations: [`plan`] (or [`plan_into`], which does not allocate), [`chart`] (or
+//! [`chart_into`], into lent bytes), [`candidates`], [`name`], [`weigh`] and [`supply`]. Each takes
+//! any bytes and any numbers and gives its answer or a [`Refusal`]. Nothing is kept between calls,
+//! so they may be called from any threads at once.
 //!
 //! ```
 //! let file = b"part\tcard\t20\ntask\tcopy\t80\t8\t80\nlock\tbuf\t2\nend\n";
@@ -28,8 +29,7 @@
 //!
 //! # Stack
 //!
-//! A call of [`plan`] or [`chart`] needs up to [`STACK_PLAN`] or [`STACK_CHART`] bytes of stack, one
-//! of the other operations less. A thread of the
+//! A call needs up to [`STACK_PLAN`] bytes of stack, less for the other operations. A thread of the
 //! standard library has 2 MB if nothing else is said.
 
 #![deny(missing_docs, unsafe_op_in_unsafe_fn)]
