@@ -75,19 +75,20 @@ static unsigned ticks_of(unsigned part) {
 
 static unsigned strip_height(void) { return (count + 1) * ROW + AXIS; }
 
+/* The title, the load, and below them what a bar and a line mean. */
 static void draw_title(void) {
     char name[9] = "";
-    unsigned demand = 0, time = 0, y = 70;
+    unsigned demand = 0, time = 0;
     sscanf(listing, "load %8s %u %u", name, &demand, &time);
     printf("<text x=\"24\" y=\"40\" class=\"title\">Which part has which tick: one cycle of %d ticks</text>\n", PLANNER_CYCLE);
-    printf("<text x=\"24\" y=\"%u\">load %s %u %u</text>\n", y, name, demand, time);
-    printf("<rect x=\"%d\" y=\"%u\" width=\"42\" height=\"%d\" class=\"bar\" fill=\"%s\"/>\n", LEFT, y - 14, BAR, colours[0]);
-    printf("<text x=\"%d\" y=\"%u\">a part has these ticks (7: as many in a row)</text>\n", LEFT + 52, y);
-    printf("<text x=\"%d\" y=\"%u\" class=\"run\" fill=\"%s\">7</text>\n", LEFT + 21, y - 1, letters[0]);
-    printf("<path d=\"M%d %uv%d\" class=\"start\"/>\n", LEFT + 420, y - 20, ROW);
-    printf("<text x=\"%d\" y=\"%u\">its period starts, and its Q of P ticks are due</text>\n", LEFT + 432, y);
-    printf("<rect x=\"%d\" y=\"%u\" width=\"42\" height=\"%d\" class=\"bar\" fill=\"url(#free)\"/>\n", LEFT + 824, y - 14, BAR);
-    printf("<text x=\"%d\" y=\"%u\">unassigned: free for overruns and switching</text>\n", LEFT + 876, y);
+    printf("<text x=\"%d\" y=\"40\" class=\"load\">load %s %u %u</text>\n", LEFT + STRIP * TICK, name, demand, time);
+    printf("<rect x=\"24\" y=\"56\" width=\"42\" height=\"%d\" class=\"bar\" fill=\"%s\"/>\n", BAR, colours[0]);
+    printf("<text x=\"45\" y=\"69\" class=\"run\" fill=\"%s\">7</text>\n", letters[0]);
+    printf("<text x=\"76\" y=\"70\">a part has these ticks (7: as many in a row)</text>\n");
+    printf("<path d=\"M456 50v%d\" class=\"start\"/>\n", ROW);
+    printf("<text x=\"468\" y=\"70\">its period starts, and its Q of P ticks are due</text>\n");
+    printf("<rect x=\"872\" y=\"56\" width=\"42\" height=\"%d\" class=\"bar\" fill=\"url(#free)\"/>\n", BAR);
+    printf("<text x=\"924\" y=\"70\">unassigned: free for overruns and switching</text>\n");
 }
 
 /* The ticks and their numbers, below the rows of a strip. */
@@ -151,7 +152,7 @@ static void draw(void) {
     printf("<svg xmlns=\"http://www.w3.org/2000/svg\" viewBox=\"0 0 %u %u\" width=\"%u\" height=\"%u\" ", width, height, width, height);
     printf("font-family=\"sans-serif\" font-size=\"15\">\n");
     printf("<title>Which part has which tick of one cycle</title>\n");
-    printf("<style>.title{font-size:24px;font-weight:bold}.name{font-weight:bold}.share{text-anchor:end}.tick{text-anchor:middle;font-size:13px}"
+    printf("<style>.title{font-size:24px;font-weight:bold}.load{font-size:20px;text-anchor:end}.name{font-weight:bold}.share{text-anchor:end}.tick{text-anchor:middle;font-size:13px}"
            ".run{text-anchor:middle;font-size:12px}.bar{stroke:#000;stroke-width:.8}.start{stroke:#000;stroke-width:1.6}"
            ".grid{stroke:#bbb}.fine{stroke:#e4e4e4}.row{fill:#f3f3f3}</style>\n");
     printf("<defs><pattern id=\"free\" width=\"6\" height=\"6\" patternUnits=\"userSpaceOnUse\">"
