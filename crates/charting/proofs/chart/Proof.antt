@@ -10,12 +10,13 @@ use Rattle.refusal.specs.Questions.{Answer}
 use Rattle.load.specs.Weigh.{rowsOf}
 use Rattle.reader.specs.Code.Reader.{partsIn}
 use Rattle.answers.specs.Answers.{HandedOver}
+use Rattle.answers.proofs.ChartRows.{chart-planned, chart-unplanned}
 use Rattle.offers.specs.declared.PlanRows.{PlanRows}
 use Rattle.planning.specs.Code.Chosen.{PlanIs}
 use Rattle.planning.proofs.Planning.{to-choose}
 use Rattle.planning.proofs.Choosing.{plan-refused, plan-is}
 use Rattle.planning.proofs.Answering.{refused-over, rows-fine}
-use Rattle.charting.proofs.Charted.{chart-planned, chart-refused}
+use Rattle.charting.specs.Code.Charted.{chartOfRows}
 use Rattle.charting.proofs.chart.Statement.{statement}
 use Rattle.charting.proofs.chart.Tie as tie
 
@@ -47,19 +48,20 @@ returns c =
     let p = c .before .before .before .choose in
     let g = c .before .o .given in
     refused-over _ (a .out .now) (g .0 .0)
-    (chart-refused (a .file .now) (length (a .out .now)) (g .0 .0) (plan-refused (a .file .now) (f .result) (f .ensures) (g .0 .0) (ap (λ (x : PlanRows). x .outcome) (sym (p .ensures)) ∙ g .1)))
+    (chart-unplanned (length (a .out .now)) (a .file .now) (g .0 .0) (plan-refused (a .file .now) (f .result) (f .ensures) (g .0 .0) (ap (λ (x : PlanRows). x .outcome) (sym (p .ensures)) ∙ g .1)))
 
 same-length : tie.Need-same-length
 same-length c = search needs
 
 returns-2 : tie.Need-returns-2
+unfolding chartOfRows
 returns-2 c =
     let e = c .before .before .before .before in
     let a = e .before .before .before .before .before .before .args in
     let f = e .before .before .before .read-file .result in
     let rows = e .before .before .choose .result .rows in
     subst (λ (b : Answer (List ℕ)). HandedOver b (a .out .now) (c .before .before .chart-rows .result) (c .before .before .chart-rows .last .1 .0))
-    (sym (chart-planned (a .file .now) (length (a .out .now)) (record { parts = partsIn (a .file .now) f; rows = rowsOf rows }) (plan-is (a .file .now) f rows (plan-there e))))
+    (sym (chart-planned (length (a .out .now)) (a .file .now) (record { parts = partsIn (a .file .now) f; rows = rowsOf rows }) (plan-is (a .file .now) f rows (plan-there e))))
     (c .before .before .chart-rows .ensures)
 
 pub chart-spec : {M : Type 1} → statement M
