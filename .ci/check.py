@@ -308,9 +308,9 @@ def check_one_pass(top):
 # ---- each limit once
 
 # The limits, each with the number above it.
-LIMITS = {'numbers': (1_000_000, 1_000_001), 'bytes in a file': (32_768, 32_769)}
+LIMITS = {'numbers': (1_000_000, 1_000_001), 'bytes in a file': (32_768, 32_769), 'ticks of a cycle': (720, 721)}
 # The constants of the header that are limits of the code; that of kept pairs is there the limit of tasks (M113c).
-IN_HEADER = {'MOST_NUMBER': 'NUMBER_LIMIT', 'MOST_BYTES': 'FILE_LIMIT', 'MOST_PAIRS': 'KEPT_LIMIT', 'MOST_ROWS': 'ROW_LIMIT'}
+IN_HEADER = {'MOST_NUMBER': 'NUMBER_LIMIT', 'MOST_BYTES': 'FILE_LIMIT', 'MOST_PAIRS': 'KEPT_LIMIT', 'MOST_ROWS': 'ROW_LIMIT', 'CYCLE': 'CYCLE'}
 # A number as it is written down, with or without its type; and the limit as a power or a product.
 WRITTEN = re.compile(r'(?<![\w.])(0x[0-9a-fA-F_]+|[0-9][0-9_]*?)(?:_?[ui](?:8|16|32|64|size))?(?!\w)')
 MADE = re.compile(r'\b10 ?\^ ?6\b|\b1_?000 ?\* ?1_?000\b')

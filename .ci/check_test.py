@@ -155,13 +155,13 @@ HEADER = """/* "no 15", PLANNER_MOST = 7 */
 #define PLANNER_VERSION_MINOR 2
 #define PLANNER_VERSION_PATCH 3
 #define PLANNER_VERSION "1.2.3"
-enum { PLANNER_MOST_NUMBER = 1000000, PLANNER_ROOM = 8192 };
+enum { PLANNER_MOST_NUMBER = 1000000, PLANNER_ROOM = 8192, PLANNER_CYCLE = 720 };
 enum { PLANNER_MOST_BYTES = 32768, PLANNER_MOST_PAIRS = 15, PLANNER_MOST_ROWS = 14 };
 enum {
     PLANNER_STACK_PLAN = 184 * 1024
 };
-static const char *const texts[] = {
-    """
+switch (number) {
+"""
 RUST = """/// The greatest number.
 pub const MOST_NUMBER: u64 = 1_000_000;
 pub const MOST_BYTES: usize = 32768;
@@ -170,9 +170,10 @@ pub const MOST_ROWS: usize = 14;
 
 /// Bytes.
 pub const ROOM: usize = 8192;
+pub const CYCLE: usize = 720;
 pub const STACK_PLAN: usize = 184 * 1024;
-const TEXTS: [&str; 15] = [
-    """
+match self.number {
+"""
 # What a crate of the tree names; what `plan` is handed, too.
 LISTS = {
     'answers': 'least', 'records': 'scan', 'planner': 'least refusal load answers inquiries hand_set planning', 'examples': 'planner', 'plan': 'least answers planner', 'console': 'libc',
@@ -210,7 +211,7 @@ def right_tree():
         'crates/examples/specs/Table.antt': 'abbrev pub table : List Example\ntable =\n    ' + '    ∷ '.join(rows) + '    ∷ []\n\ninfixr 60 _and_\n',
         'crates/answers/src/lib.rt': 'use least::Frac;\n\npub struct Supplied {\n    pub ticks: Frac,\n}\n',
         'crates/plan/src/main.rt': 'use planner::Supplied;\n\nfn main() {\n    planner::plan(1);\n}\n',
-        'README.md': 'A file:\n\npart\tcard\t20\nend\n\nits plan:\n\nload\tcard\n\n' + ''.join(f'| {number} | 0 | no {number} | write it |\n' for number in range(1, 15)),
+        'README.md': 'A file:\n\npart\tcard\t20\nend\n\nits plan:\n\nload\tcard\n\n' + ''.join(f'| {number} | 0 | no {number} | write it |\n' for number in interface.NUMBERS),
         DEMAND_1: DEMAND,
         SCAN: SCANNED,
         SCAN_CODE: 'let mut i = at;\nwhile i < s.len() {\n    let b = s[i];\n    if b == 10 {\n        return Scanned { good: true, end: i };\n    }\n    i += 1;\n}\n',
@@ -219,8 +220,8 @@ def right_tree():
         LOAD_CODE: 'ghost use Rattle.load.specs.Load.{_⊑_};\n',
         ROWS: ROWS_PAGE,
         'crates/examples/specs/Code/Spare.antt': 'abbrev pub spare : ℕ\nspare = 0\n',
-        LIMIT: 'abbrev pub numberLimit : ℕ\nnumberLimit = 1000000\nfileLimit = 32768\nabbrev pub keptLimit : ℕ\nkeptLimit = taskLimit\n',
-        LIMIT_CODE: 'pub const NUMBER_LIMIT: u64 = 1000000;\npub const FILE_LIMIT: usize = 32768;\npub const TASK_LIMIT: usize = 15;\npub const KEPT_LIMIT: usize = TASK_LIMIT;\npub const ROW_LIMIT: usize = 14;\n',
+        LIMIT: 'abbrev pub numberLimit : ℕ\nnumberLimit = 1000000\nfileLimit = 32768\nabbrev pub keptLimit : ℕ\nkeptLimit = taskLimit\nabbrev pub cycle : ℕ\ncycle = 720\n',
+        LIMIT_CODE: 'pub const NUMBER_LIMIT: u64 = 1000000;\npub const FILE_LIMIT: usize = 32768;\npub const TASK_LIMIT: usize = 15;\npub const KEPT_LIMIT: usize = TASK_LIMIT;\npub const ROW_LIMIT: usize = 14;\npub const CYCLE: usize = 720;\n',
         'crates/answers/specs/Answers.antt': HANDED,
         'crates/answers/specs/Choice.antt': 'pub record Choice : Type 0 where\n  pub rows : List Row\n',
         'crates/examples/specs/WrongPlanners.antt': 'use Rattle.planner.specs.Demand1.{Demand1, Demand3}\nabbrev pub ShutOut : Type 0\nShutOut = Demand3 → ⊥\n',
@@ -233,8 +234,8 @@ def right_tree():
         'crates/cases/stdout': '== m103-poster\nload\tp\n== more\nend\n',
         M_102: NOTE,
         'CHANGELOG.md': '# Changes\n\n## M-102 A title\n\nNo answer changes.\n',
-        interface.HEADER: HEADER + ' '.join(f'"no {number}",' for number in range(15)) + '};\n',
-        interface.RUST: RUST + ' '.join(f'"no {number}",' for number in range(15)) + '];\n',
+        interface.HEADER: HEADER + ''.join(f'    case {number}:\n        return "no {number}";\n' for number in [0, *interface.NUMBERS]) + '}\n',
+        interface.RUST: RUST + ''.join(f'    {number} => "no {number}",\n' for number in [0, *interface.NUMBERS]) + '}\n',
         interface.RAW: '',
         interface.PACKAGE: '[package]\nversion = "1.2.3"\n',
         'tests/src/library.rs': '',
@@ -475,6 +476,9 @@ SLIPS = [
     (check.check_one_limit, 'PLANNER_MOST_PAIRS is 15, and the limit KEPT_LIMIT of the code 121', LIMIT_CODE, '= TASK_LIMIT', '= 121'),
     (check.check_one_limit, 'PLANNER_MOST_PAIRS is 15, and the limit KEPT_LIMIT of the code None', LIMIT_CODE, 'pub const KEPT', '// pub const KEPT'),
     (check.check_one_limit, 'PLANNER_MOST_ROWS is 15, and the limit ROW_LIMIT of the code 14', interface.HEADER, 'ROWS = 14', 'ROWS = 15'),
+    (check.check_one_limit, 'the limit of ticks of a cycle stands 2 times in the code', 'crates/least/src/lib.rt', '', '    if t < 720 {\n'),
+    (check.check_one_limit, 'the limit of ticks of a cycle stands 0 times in the definitions', LIMIT, '= 720', '= 360'),
+    (check.check_one_limit, 'PLANNER_CYCLE is 719, and the limit CYCLE of the code 720', interface.HEADER, '720', '719'),
     (check.check_one_limit, 'PLANNER_MOST_BYTES is 32767, and the limit FILE_LIMIT of the code 32768', interface.HEADER, 'BYTES = 32768', 'BYTES = 32767'),
     *((check.check_believed, f'{ROWS}: {name} stands in Code/, and must be believed: {who} names it', path, old, new) for name, who, path, old, new in [
         ('noRow', 'load::weigh', LOAD_CODE, 'Load.{_⊑_}', 'Code.Rows.{noRow as _⊑_}'),
@@ -523,10 +527,14 @@ SLIPS = [
     (check.check_refusals, 'README.md: refusal 5 is `no 5`, and in include/planner.h `never`', interface.HEADER, '"no 5"', '"never"'),
     (check.check_refusals, 'rust/planner/src/lib.rs: refusal 5 is `never`, and in include/planner.h `no 5`', interface.RUST, '"no 5"', '"never"'),
     (check.check_refusals, 'rust/planner/src/lib.rs: refusal 0 is `never`', interface.RUST, '"no 0"', '"never"'),
-    (check.check_refusals, 'rust/planner/src/lib.rs: refusal 14 is `None`', interface.RUST, '"no 5"', '/* "no 5" */'),
-    (check.check_refusals, 'rust/planner/src/lib.rs: refusal 5 is `no 6`', interface.RUST, '"no 5", "no 6",', '"no 6", "no 5",'),
-    (check.check_refusals, 'in include/planner.h `None`', interface.HEADER, 'texts[]', 'words[]'),
-    (check.check_refusals, 'in include/planner.h `no 15`', interface.HEADER, '"no 14",', '"no 14", "no 15",'),
+    (check.check_refusals, 'rust/planner/src/lib.rs: refusal 19 is `None`', interface.RUST, '    19 =>', '    // 19 =>'),
+    (check.check_refusals, 'rust/planner/src/lib.rs: refusal 5 is `None`', interface.RUST, '"no 5"', '/* "no 5" */'),
+    (check.check_refusals, 'rust/planner/src/lib.rs: the refusals are 0 1 2 3 4 6 5', interface.RUST, '    5 => "no 5",\n    6 => "no 6",\n', '    6 => "no 6",\n    5 => "no 5",\n'),
+    (check.check_refusals, 'include/planner.h: the refusals are 0 1 2 3 4 6', interface.HEADER, 'case 5:\n        return "no 5";', ''),
+    (check.check_refusals, 'in include/planner.h `None`', interface.HEADER, 'return "no 19"', 'return "no 19" "no 20"'),
+    (check.check_refusals, 'in include/planner.h `no 15`', interface.HEADER, 'case 19:', 'case 15:\n        return "no 15";\n    case 19:'),
+    (check.check_refusals, 'README.md: refusal 19 is `None`, and in include/planner.h `no 19`', 'README.md', '| 19 | 0 | no 19 | write it |\n', ''),
+    (check.check_refusals, 'README.md: refusal 15 is `no 15`, and in include/planner.h `None`', 'README.md', '| 19 |', '| 15 | 0 | no 15 | write it |\n| 19 |'),
     (check.check_refusals, 'README.md: the refusals are 1 2 3 4 6', 'README.md', '| 5 | 0 | no 5 | write it |\n', ''),
     (check.check_refusals, 'README.md: the refusals are 1 2 3 4 6', 'README.md', '| no 5 | write it |', '| no 5 |  |'),
     (check.check_constants, 'ROOM is 8192, and in include/planner.h 4096', interface.HEADER, '8192', '4096'),

@@ -7,20 +7,27 @@ from statements import source
 HEADER, PACKAGE, RUST, RAW = 'include/planner.h', 'rust/planner/Cargo.toml', 'rust/planner/src/lib.rs', 'rust/planner/src/raw.rs'
 
 
-def quoted(text, start):
-    """The strings of a table that begins so, by their place; none if it is not there."""
-    table = re.search(re.escape(start) + r'((?:\s*"(?:[^"\\]|\\.)*",)+)\s*[\]}];', text)
-    return dict(enumerate(re.findall(r'"((?:[^"\\]|\\.)*)"', table[1] if table else '')))
+# The numbers of the refusals that there are.
+NUMBERS = [*range(1, 15), 19]
+# A text by its number, in the header and in the Rust package.
+IN_C, IN_RUST = r'^ *case (\d+):\s*return {};$', r'^ *(\d+) => {},$'
+
+
+def quoted(form, text):
+    """The texts of that form by their numbers, and these in the order in which they stand there."""
+    found = [(int(number), said) for number, said in re.findall(form.replace('{}', r'"((?:[^"\\]|\\.)*)"'), text, re.M)]
+    return dict(found), [number for number, _ in found]
 
 
 def check_refusals(top):
-    """What is wrong at a refusal is said with the same words in README.md, in the header and in the Rust package, for 1 to 14 in order; in the code also for 0."""
+    """What is wrong at a refusal is said with the same words in README.md, in the header and in the Rust package, for each of NUMBERS in order; in the code also for 0."""
     rows = re.findall(r'^\| (\d+) \| [^|]*[^| ] \| ([^|]*[^| ]) \| [^|]*[^| ] \|$', (top / 'README.md').read_text(), re.M)
-    header = quoted(source(top / HEADER), 'texts[] = {')
-    if [int(number) for number, _ in rows] != list(range(1, 15)):
-        yield f'README.md: the refusals are {" ".join(number for number, _ in rows)}, and must be 1 to 14'
-    for place, texts in (('README.md', {0: header.get(0), **{int(number): text for number, text in rows}}), (RUST, quoted(source(top / RUST), 'TEXTS: [&str; 15] = ['))):
-        for number in sorted(header.keys() | texts.keys() | {*range(15)}):
+    (header, in_header), (rust, in_rust) = quoted(IN_C, source(top / HEADER)), quoted(IN_RUST, source(top / RUST))
+    for place, found, wanted in (('README.md', [int(number) for number, _ in rows], NUMBERS), (HEADER, in_header, [0, *NUMBERS]), (RUST, in_rust, [0, *NUMBERS])):
+        if found != wanted:
+            yield f'{place}: the refusals are {" ".join(map(str, found))}, and must be {" ".join(map(str, wanted))}'
+    for place, texts in (('README.md', {0: header.get(0), **{int(number): text for number, text in rows}}), (RUST, rust)):
+        for number in sorted(header.keys() | texts.keys() | {0, *NUMBERS}):
             if not texts.get(number) or texts.get(number) != header.get(number):
                 yield f'{place}: refusal {number} is `{texts.get(number)}`, and in {HEADER} `{header.get(number)}`'
 

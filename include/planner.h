@@ -1,4 +1,4 @@
-/* The planner's five operations, for C and C++ on x86-64 Linux: link
+/* The planner's six operations, for C and C++ on x86-64 Linux: link
  * target/staticlib/libplanner_c.a, which `rt staticlib planner_c` writes.
  *
  * Any bytes, any numbers: an answer has number and place 0, or those of a refusal (README.md,
@@ -19,20 +19,21 @@
 /* MAJOR moves when a caller must change something, MINOR when something is new or a rule of the
  * answers has changed, PATCH when neither is so. */
 #define PLANNER_VERSION_MAJOR 2
-#define PLANNER_VERSION_MINOR 0
+#define PLANNER_VERSION_MINOR 1
 #define PLANNER_VERSION_PATCH 0
-#define PLANNER_VERSION "2.0.0"
+#define PLANNER_VERSION "2.1.0"
 
 /* The greatest number of a file, and the greatest period, budget, holding time and time set by hand;
  * the most bytes of a file, pairs of a kept list and rows of a weighing; bytes enough for any
- * listing. */
+ * listing; the ticks of a cycle, and so the bytes of a chart. */
 enum { PLANNER_MOST_NUMBER = 1000000, PLANNER_MOST_BYTES = 32768, PLANNER_MOST_PAIRS = 16 };
-enum { PLANNER_MOST_ROWS = 16, PLANNER_ROOM = 8192 };
+enum { PLANNER_MOST_ROWS = 16, PLANNER_ROOM = 8192, PLANNER_CYCLE = 720 };
 
 /* Bytes of stack that a call needs, its answer included. A program that binds memcpy and memset only
  * when they are first called (no -static, no -z now) needs some KB more in that call. */
 enum {
-    PLANNER_STACK_PLAN = 125 * 1024,
+    PLANNER_STACK_PLAN = 152 * 1024,
+    PLANNER_STACK_CHART = 96 * 1024,
     PLANNER_STACK_CANDIDATES = 63 * 1024,
     PLANNER_STACK_NAME = 60 * 1024,
     PLANNER_STACK_WEIGH = 4 * 1024,
@@ -51,6 +52,15 @@ typedef struct {
     size_t written;
 } planner_plan_answer;
 planner_plan_answer planner_plan(const uint8_t *file, size_t length, uint8_t *out, size_t room);
+
+/* The chart of the plan of a file whose periods all divide PLANNER_CYCLE: which part has which tick of
+ * a cycle. All parts start together at tick 0, each is due its budget from the start of each of its
+ * periods, and a tick goes to the highest part still due. Byte t of `out` is the number of the part
+ * that has tick t, a value from 1 to 16 and no digit, or 0: then the tick is unassigned, and free for
+ * overruns and switching. `written` is PLANNER_CYCLE, and the bytes behind these stay as they were.
+ * Every part has exactly its budget in each of its periods, in this cycle and in each repetition.
+ * Refusals as of a plan: 1 to 11, then 19 at the first part with another period, then 14. */
+planner_plan_answer planner_chart(const uint8_t *file, size_t length, uint8_t *out, size_t room);
 
 /* The kept list of a part, counted from 1: budgets Q with holding times X, in falling X; a part has
  * no more of them than tasks. X is that of the part's shared locks, those that another part names
@@ -105,24 +115,42 @@ planner_supply_answer planner_supply(uint64_t period, uint64_t budget, uint64_t 
 
 /* What is wrong, by the number of a refusal; 0 is none. README.md says how to mend it. */
 static inline const char *planner_refusal_text(uint64_t number) {
-    static const char *const texts[] = {
-        "no refusal",
-        "the file is longer than 32,768 bytes",
-        "the line does not end with byte 10, or has a byte that is neither a tab nor 33 to 126",
-        "the line is not a part, task, lock or end with 3, 5, 3 or 1 fields",
-        "the record is not allowed here, or the file ends without an end line",
-        "the name is not 1 to 8 characters from a-z and 0-9",
-        "the name is not new among the parts of the file, tasks of the part or locks of the task",
-        "a number is not 1 to 1,000,000 in digits without a leading zero",
-        "C <= D <= T does not hold, or the lock is held for longer than its task's C",
-        "there are more than 16 parts, 16 tasks in the part or 8 different lock names in the part",
-        "the part has no permitted setting of ceilings with a budget",
-        "no choice for all parts passes the system test",
-        "a part number, a count of rows or a number set by hand is out of range",
-        "the row has no time t within its period with L(t) <= t",
-        "the listing does not fit the lent bytes",
-    };
-    return number < sizeof texts / sizeof *texts ? texts[number] : "unknown refusal";
+    switch (number) {
+    case 0:
+        return "no refusal";
+    case 1:
+        return "the file is longer than 32,768 bytes";
+    case 2:
+        return "the line does not end with byte 10, or has a byte that is neither a tab nor 33 to 126";
+    case 3:
+        return "the line is not a part, task, lock or end with 3, 5, 3 or 1 fields";
+    case 4:
+        return "the record is not allowed here, or the file ends without an end line";
+    case 5:
+        return "the name is not 1 to 8 characters from a-z and 0-9";
+    case 6:
+        return "the name is not new among the parts of the file, tasks of the part or locks of the task";
+    case 7:
+        return "a number is not 1 to 1,000,000 in digits without a leading zero";
+    case 8:
+        return "C <= D <= T does not hold, or the lock is held for longer than its task's C";
+    case 9:
+        return "there are more than 16 parts, 16 tasks in the part or 8 different lock names in the part";
+    case 10:
+        return "the part has no permitted setting of ceilings with a budget";
+    case 11:
+        return "no choice for all parts passes the system test";
+    case 12:
+        return "a part number, a count of rows or a number set by hand is out of range";
+    case 13:
+        return "the row has no time t within its period with L(t) <= t";
+    case 14:
+        return "the listing or the chart does not fit the lent bytes";
+    case 19:
+        return "the part's period does not divide 720, the ticks of a cycle";
+    default:
+        return "unknown refusal";
+    }
 }
 
 #ifdef __cplusplus

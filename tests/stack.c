@@ -21,6 +21,7 @@ static uint64_t period, budget, ticks;
 static volatile uint64_t number;
 
 static void plan(void) { number = planner_plan(file, length, listing, sizeof listing).number; }
+static void chart(void) { number = planner_chart(file, length, listing, sizeof listing).number; }
 static void candidates(void) { number = planner_candidates(file, length, part).number; }
 static void name(void) { number = planner_name(file, length, part).number; }
 static void weigh(void) { number = planner_weigh(rows).number; }
@@ -76,11 +77,12 @@ static uint64_t made_up(uint64_t most) {
 }
 
 int main(int count, char **paths) {
-    size_t by_plan = 0, by_candidates = 0, by_name = 0, by_weigh = 0, by_supply = 0;
+    size_t by_plan = 0, by_chart = 0, by_candidates = 0, by_name = 0, by_weigh = 0, by_supply = 0;
     paint(0);
     for (int i = 1; i < count; i++) {
         read_file(paths[i]);
         measure(plan, &by_plan);
+        measure(chart, &by_chart);
         for (part = 0; part <= MOST_PARTS + 1; part++) {
             measure(candidates, &by_candidates);
             measure(name, &by_name);
@@ -99,7 +101,7 @@ int main(int count, char **paths) {
         ticks = made_up(longest);
         measure(supply, &by_supply);
     }
-    printf("PLAN %zu\nCANDIDATES %zu\nNAME %zu\n", by_plan, by_candidates, by_name);
+    printf("PLAN %zu\nCHART %zu\nCANDIDATES %zu\nNAME %zu\n", by_plan, by_chart, by_candidates, by_name);
     printf("WEIGH %zu\nSUPPLY %zu\n", by_weigh, by_supply);
     return fflush(stdout) != 0 || ferror(stdout);
 }

@@ -1,5 +1,5 @@
-/* All five operations: prints the plan of a file, the kept list of each of its parts, and of numbers
- * set by hand the bounds, the load and the supply.
+/* All six operations: prints the plan of a file, the kept list of each of its parts, of numbers set by
+ * hand the bounds, the load and the supply, and the chart of a cycle.
  *
  *     operations [FILE]        without FILE from standard input
  *
@@ -89,6 +89,21 @@ static void print_supply(uint64_t period, uint64_t budget, uint64_t time) {
         printf("%" PRIu64 "\n", supplied.ticks);
 }
 
+/* Which part has which tick of a cycle, 60 ticks a line; `.` where a tick is unassigned. */
+static void print_chart(void) {
+    uint8_t ticks[PLANNER_CYCLE];
+    planner_plan_answer chart = planner_chart(file, length, ticks, sizeof ticks);
+    if (chart.number != 0) {
+        printf("chart: ");
+        print_refusal(stdout, chart.number, chart.place);
+        return;
+    }
+    printf("chart:");
+    for (size_t tick = 0; tick < chart.written; tick++)
+        printf("%s%c", tick % 60 == 0 ? "\n" : "", ".123456789abcdefg"[ticks[tick]]);
+    printf("\n");
+}
+
 int main(int count, char **words) {
     const char *path = count > 1 ? words[1] : NULL;
     const planner_row rows[] = {{20, 3, 2}, {10, 3, 3}};
@@ -109,6 +124,7 @@ int main(int count, char **words) {
     print_weighing(crowded, 2);
     print_supply(20, 3, 60);
     print_supply(20, 3, PLANNER_MOST_NUMBER + 1);
+    print_chart();
     if (fflush(stdout) != 0 || ferror(stdout)) {
         fprintf(stderr, "operations: cannot write to standard output\n");
         return 3;

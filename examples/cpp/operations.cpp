@@ -1,5 +1,5 @@
-// All five operations: prints the plan of a file, the kept list of each of its parts, and of numbers
-// set by hand the bounds, the load and the supply.
+// All six operations: prints the plan of a file, the kept list of each of its parts, of numbers set by
+// hand the bounds, the load and the supply, and the chart of a cycle.
 //
 //     operations [FILE]        without FILE from standard input
 //
@@ -89,6 +89,18 @@ void print_supply(uint64_t period, uint64_t budget, uint64_t time) {
         std::cout << supplied.ticks << '\n';
 }
 
+// Which part has which tick of a cycle, 60 ticks a line; `.` where a tick is unassigned.
+void print_chart(const std::vector<uint8_t> &file) {
+    std::vector<uint8_t> ticks(PLANNER_CYCLE);
+    const auto chart = planner_chart(file.data(), file.size(), ticks.data(), ticks.size());
+    std::cout << "chart:";
+    if (chart.number != 0)
+        std::cout << ' ' << Refusal{chart.number, chart.place};
+    for (std::size_t tick = 0; tick < chart.written; tick++)
+        std::cout << (tick % 60 == 0 ? "\n" : "") << ".123456789abcdefg"[ticks[tick]];
+    std::cout << '\n';
+}
+
 } // namespace
 
 int main(int count, char **words) {
@@ -113,6 +125,7 @@ int main(int count, char **words) {
     print_weighing({{20, 9, 2}, {10, 3, 3}});
     print_supply(20, 3, 60);
     print_supply(20, 3, PLANNER_MOST_NUMBER + 1);
+    print_chart(file);
     if (!std::cout.flush()) {
         std::cerr << "operations: cannot write to standard output\n";
         return 3;

@@ -5,6 +5,7 @@
 //! - [`local`]: supply, holding times, blocking, the least budget, the kept list of one part
 //! - [`system`]: rows, bounds, loads, weighing, the selection of least load
 //! - [`listing`]: the printed bytes
+//! - [`chart`]: which part has which tick of a cycle
 //! - [`same_search`]: plans and kept lists by the library's own search, to compare times with
 //! - [`literal`]: all of it again by brute force, for small files
 //! - [`random`]: made-up plan files
@@ -22,6 +23,7 @@
 use std::ops::Range;
 
 pub mod by_hand;
+pub mod chart;
 pub mod delivery;
 pub mod edges;
 pub mod file;
@@ -40,7 +42,7 @@ pub mod timing;
 
 use file::{Part, LARGEST_NUMBER};
 use local::{Local, Pair};
-use system::{Candidates, Row};
+use system::{Candidates, Row, Weighing};
 
 pub use system::weigh;
 
@@ -72,12 +74,28 @@ fn refuse<T>(number: u32, place: usize) -> Result<T, Refusal> {
 pub fn plan(file: &[u8], room: usize) -> Result<Vec<u8>, Refusal> {
     let parts = file::read(file)?;
     let locals: Vec<Local> = parts.iter().map(Local::new).collect();
-    let candidates = all_candidates(&parts, locals.iter().map(Local::candidates))?;
-    let Some((rows, weighing)) = system::select(&candidates) else {
-        return refuse(11, 0);
-    };
+    let (rows, weighing) = chosen(&parts, &locals)?;
     let ceilings = |part: usize, row: &Row| locals[part].ceilings(row.holding);
     fitting(listing::of_plan(&parts, &rows, &weighing, ceilings), room)
+}
+
+/// The chart of the plan of least load, a byte a tick, if it fits `room` bytes.
+/// Questions 1 to 11, then 19, then 14.
+pub fn chart(file: &[u8], room: usize) -> Result<Vec<u8>, Refusal> {
+    let parts = file::read(file)?;
+    let locals: Vec<Local> = parts.iter().map(Local::new).collect();
+    let (rows, _) = chosen(&parts, &locals)?;
+    chart::in_cycle(&rows)?;
+    fitting(chart::of_rows(&rows), room)
+}
+
+/// The rows of the choice of least load, and their bounds. Questions 10 and 11.
+fn chosen(parts: &[Part], locals: &[Local]) -> Result<(Vec<Row>, Weighing), Refusal> {
+    let candidates = all_candidates(parts, locals.iter().map(Local::candidates))?;
+    match system::select(&candidates) {
+        Some(choice) => Ok(choice),
+        None => refuse(11, 0),
+    }
 }
 
 /// The kept lists of all parts, each worked out behind the one before. Question 10.
@@ -95,12 +113,12 @@ fn all_candidates(
     Ok(candidates)
 }
 
-/// The listing, if it fits. Question 14.
-fn fitting(listing: Vec<u8>, room: usize) -> Result<Vec<u8>, Refusal> {
-    if listing.len() > room {
+/// The bytes of a listing or a chart, if they fit. Question 14.
+fn fitting(bytes: Vec<u8>, room: usize) -> Result<Vec<u8>, Refusal> {
+    if bytes.len() > room {
         return refuse(14, 0);
     }
-    Ok(listing)
+    Ok(bytes)
 }
 
 /// The part with this number, from 1. Question 12.

@@ -22,18 +22,43 @@ fn settled<T>(answer: Result<T, planner::Refusal>) -> (Result<T, Refusal>, u64, 
     (answer, number.into(), place as u64)
 }
 
-/// The plan of the file: its listing is in the first bytes of `out`, as many as are counted.
-pub fn plan(file: &[u8], out: &mut [u8]) -> Result<usize, Refusal> {
-    let written = planner::plan_into(file, out).map(|listing| listing.len());
-    let (answer, number, place) = settled(written);
-    let expected = raw::PlanAnswer {
+/// How many bytes were written, or the refusal, and the raw answer that says the same.
+fn written(
+    answer: Result<&mut [u8], planner::Refusal>,
+) -> (Result<usize, Refusal>, raw::PlanAnswer) {
+    let (answer, number, place) = settled(answer.map(|bytes| bytes.len()));
+    let raw = raw::PlanAnswer {
         number,
         place,
         written: answer.unwrap_or(0),
     };
+    (answer, raw)
+}
+
+/// The plan of the file: its listing is in the first bytes of `out`, as many as are counted.
+pub fn plan(file: &[u8], out: &mut [u8]) -> Result<usize, Refusal> {
+    let (answer, expected) = written(planner::plan_into(file, out));
     // SAFETY: the pointers and the lengths are those of the slices; the call writes only to `out`.
     let raw = unsafe { raw::planner_plan(file.as_ptr(), file.len(), out.as_mut_ptr(), out.len()) };
     assert_eq!(raw, expected);
+    answer
+}
+
+/// The chart of the file: it is in the first bytes of `out`, as many as are counted. The chart given
+/// back is the same, or has the same refusal but for the room.
+pub fn chart(file: &[u8], out: &mut [u8]) -> Result<usize, Refusal> {
+    let (answer, expected) = written(planner::chart_into(file, out));
+    let before = out.to_vec();
+    // SAFETY: the pointers and the lengths are those of the slices; the call writes only to `out`.
+    let raw = unsafe { raw::planner_chart(file.as_ptr(), file.len(), out.as_mut_ptr(), out.len()) };
+    assert_eq!(raw, expected);
+    assert!(out == before, "the raw call writes other bytes");
+    let given = planner::chart(file);
+    match answer {
+        Ok(count) => assert!(given.is_ok_and(|chart| chart == out[..count])),
+        Err(Refusal { number: 14, .. }) => assert!(given.is_ok()),
+        Err(refusal) => assert_eq!(settled(given).0, Err(refusal)),
+    }
     answer
 }
 

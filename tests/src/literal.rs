@@ -588,3 +588,59 @@ fn of_kept(parts: &[Part], kept: &[List]) -> Result<(String, Fraction), Refusal>
     }
     Ok((listing, load))
 }
+
+/// The chart: questions 1 to 11, 19 and 14.
+pub fn chart(file: &[u8], room: usize) -> Result<Vec<u8>, Refusal> {
+    chart_of(&plan(file, usize::MAX)?, room)
+}
+
+/// The same for files with too many choices.
+pub fn chart_of_kept(file: &[u8], room: usize) -> Result<Vec<u8>, Refusal> {
+    chart_of(&plan_of_kept(file)?, room)
+}
+
+/// The chart of a listing's rows: questions 19 and 14.
+fn chart_of(listing: &str, room: usize) -> Result<Vec<u8>, Refusal> {
+    let shares = listing.lines().filter(|line| line.starts_with("share"));
+    let row = |line: &str| {
+        let fields: Vec<i64> = line.split('\t').skip(2).map(number).collect();
+        (fields[0], fields[1], fields[2])
+    };
+    let rows: Vec<Row> = shares.map(row).collect();
+    for (part, (p, _, _)) in (1..).zip(&rows) {
+        if 720 % p != 0 {
+            return Err((19, part));
+        }
+    }
+    if room < 720 {
+        return Err((14, 0));
+    }
+    Ok(ticks(&rows, 720))
+}
+
+/// Which part has each of so many ticks, part numbers from 1. All parts start together, each is due
+/// its Q ticks from the start of each of its periods, and a tick goes to the highest part still due,
+/// or to 0. A part that is still due a tick where its period ends did not get its Q.
+pub fn ticks(rows: &[Row], count: i64) -> Vec<u8> {
+    let mut due = vec![0; rows.len()];
+    let mut holders = Vec::new();
+    for tick in 0..count {
+        for (due, (p, q, _)) in due.iter_mut().zip(rows) {
+            if tick % p == 0 {
+                assert_eq!(*due, 0, "ticks left over before tick {tick}: {rows:?}");
+                *due = *q;
+            }
+        }
+        let mut holder = 0;
+        for number in 1..=rows.len() {
+            if due[number - 1] > 0 {
+                holder = number;
+            }
+        }
+        if holder > 0 {
+            due[holder - 1] -= 1;
+        }
+        holders.push(holder as u8);
+    }
+    holders
+}

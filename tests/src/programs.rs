@@ -5,10 +5,11 @@ use std::io::{self, Write};
 use std::path::{Path, PathBuf};
 
 use crate::by_hand::{SUPPLIES, WEIGHINGS};
+use crate::chart::CYCLE;
 use crate::file::MOST_PARTS;
 use crate::literal::{self, Line};
 use crate::system::{Bound, Row};
-use crate::{candidates, name, number_and_place, plan, printed, supply_answer, weigh};
+use crate::{candidates, chart, name, number_and_place, plan, printed, supply_answer, weigh};
 
 /// A program by the name of its folder.
 pub struct Program {
@@ -26,8 +27,13 @@ pub const FIGURES: Program = Program {
     by_reference: kept_lists_of_files,
 };
 
+pub const CHARTS: Program = Program {
+    name: "charts",
+    by_reference: charts_of_files,
+};
+
 /// Every program.
-pub const ALL: [Program; 6] = [
+pub const ALL: [Program; 7] = [
     Program {
         name: "plan",
         by_reference: listing_of_stdin,
@@ -37,6 +43,7 @@ pub const ALL: [Program; 6] = [
         name: "rooms",
         by_reference: plans_in_rooms,
     },
+    CHARTS,
     FIGURES,
     Program {
         name: "by_hand",
@@ -127,6 +134,36 @@ fn plans_in_rooms(program: &Program) -> io::Result<Vec<u8>> {
         out.push(b'\n');
     }
     Ok(out)
+}
+
+/// `charts`: behind a line with a file's name its chart in room for a byte more than it has; then
+/// charts in other rooms.
+fn charts_of_files(program: &Program) -> io::Result<Vec<u8>> {
+    let mut out = Vec::new();
+    for file in program.files()? {
+        writeln!(out, "== {}", file.name)?;
+        write_chart(&mut out, &file.bytes, CYCLE + 1)?;
+    }
+    for room in [0, CYCLE - 1, CYCLE, CYCLE + 60] {
+        write_chart(&mut out, b"part\tp\t10\ntask\tt\t10\t10\t10\nend\n", room)?;
+    }
+    write_chart(&mut out, b"part\tp\t7\ntask\tt\t70\t1\t70\nend\n", 0)?;
+    Ok(out)
+}
+
+/// Number, place and bytes counted of a chart; below, the lent bytes, `#` where one is as it was.
+fn write_chart(out: &mut Vec<u8>, file: &[u8], room: usize) -> io::Result<()> {
+    let answer = chart(file, room);
+    let (number, place) = number_and_place(&answer);
+    let chart = answer.unwrap_or_default();
+    writeln!(out, "{number}\t{place}\t{}", chart.len())?;
+    let mut lent = chart::text(&chart);
+    lent.resize(room, b'#');
+    for line in lent.chunks(chart::LINE) {
+        out.extend(line);
+        out.push(b'\n');
+    }
+    Ok(())
 }
 
 /// `figures`: for each part of each file the file, the part's number and name, the number and the

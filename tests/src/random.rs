@@ -2,6 +2,7 @@
 
 use std::ops::RangeInclusive;
 
+use crate::chart::{divides_cycle, CYCLE};
 use crate::file::{LARGEST_NUMBER, LONGEST_FILE, MOST_LOCKS, MOST_PARTS, MOST_TASKS};
 use crate::local::time_of_supply;
 
@@ -118,6 +119,18 @@ impl Sizes {
         }
     }
 
+    /// As many parts as there may be, with few short tasks, so that most files can be planned.
+    pub fn many_parts() -> Self {
+        Sizes {
+            parts: 4..=16,
+            tasks: 1..=2,
+            locks: 0..=1,
+            period: 60..=900,
+            separation: 4..=20,
+            utilisation: 1..=30,
+        }
+    }
+
     /// Such jobs under short periods, few enough for brute force over all budgets and times.
     pub fn few_posters() -> Self {
         Sizes {
@@ -223,6 +236,62 @@ pub fn made_up(random: &mut Random, rounds: usize) -> Vec<Vec<u8>> {
         files.push(file);
     }
     files
+}
+
+/// Made-up files for charts, each whole, damaged and with numbers near the limits. Where it could be
+/// charted, most have periods that divide the cycle; in one file of four some do not.
+pub fn made_up_for_charts(random: &mut Random, rounds: usize) -> Vec<Vec<u8>> {
+    let sizes = [
+        Sizes::two_parts(),
+        Sizes::many_parts(),
+        Sizes::three_parts(),
+        Sizes::one_part(),
+        Sizes::many_parts(),
+        Sizes::full(),
+    ];
+    let mut files = Vec::new();
+    for round in 0..rounds {
+        let file = valid(random, &sizes[round % sizes.len()]);
+        let file = in_cycle(random, &file);
+        files.push(damaged(random, &file));
+        files.push(extreme(random, &file));
+        files.push(file);
+    }
+    files
+}
+
+/// A readable file with the divisor of the cycle that is nearest to each of its periods. In one file
+/// of four a period stays as it was now and then, so that it mostly does not divide the cycle.
+pub fn in_cycle(random: &mut Random, file: &[u8]) -> Vec<u8> {
+    let some_stay = random.once_in(4);
+    let text = String::from_utf8_lossy(file);
+    let mut out = String::new();
+    for line in text.lines() {
+        match line.split('\t').collect::<Vec<&str>>()[..] {
+            ["part", name, period] => {
+                let period: u64 = period.parse().unwrap_or(1);
+                let stays = some_stay && random.once_in(3);
+                let period = if stays {
+                    period
+                } else {
+                    nearest_divisor(period)
+                };
+                out += &format!("part\t{name}\t{period}\n");
+            }
+            _ => {
+                out += line;
+                out.push('\n');
+            }
+        }
+    }
+    out.into_bytes()
+}
+
+/// The divisor of the cycle that is nearest to a number.
+fn nearest_divisor(number: u64) -> u64 {
+    let divisors = (1..=CYCLE as u64).filter(|&period| divides_cycle(period));
+    let nearest = divisors.min_by_key(|period| period.abs_diff(number));
+    nearest.unwrap_or(1)
 }
 
 /// A readable plan file with as many parts, tasks and locks as there may be. Most locks are shared.

@@ -1,13 +1,14 @@
 //! What docs/GUIDE.md shows of plan files is what the reference answers: each file with its listing,
-//! and the tables of ceilings, budgets and locks. What it shows of deliveries is tested by
+//! the tables of ceilings, budgets and locks, and the chart of the kiosk. What it shows of deliveries is tested by
 //! tests/delivery.rs.
 
 use std::fs;
 use std::io::Write;
 use std::process::{Command, Stdio};
 
+use reference::chart::{self, CYCLE, LINE};
 use reference::page::{blocks, table};
-use reference::{literal, printed, PROGRAM_ROOM};
+use reference::{chart as charted, literal, number_and_place, printed, PROGRAM_ROOM};
 
 /// A file of the repository.
 fn source(path: &str) -> String {
@@ -202,4 +203,75 @@ fn m100_the_misspelt_lock() {
     for (row, signs) in rows[1..].iter().zip(good.iter().zip(&bad)) {
         assert_eq!((row[1], row[2]), (signs.0.as_str(), signs.1.as_str()));
     }
+}
+
+#[test]
+fn m109_the_chart_of_the_kiosk() {
+    let guide = source("docs/GUIDE.md");
+    let kiosk = source("examples/kiosk.plan");
+    let ticks = charted(kiosk.as_bytes(), CYCLE).expect("a chart");
+    let slow = literal::chart_of_kept(kiosk.as_bytes(), CYCLE);
+    assert_eq!(Ok(&ticks), slow.as_ref());
+    let text = String::from_utf8(chart::text(&ticks)).expect("letters");
+    let lines = (0..CYCLE).step_by(LINE).map(|at| &text[at..at + LINE]);
+    let lines: Vec<&str> = lines.collect();
+    assert_eq!(from_block(&guide, "4444")[0].1, lines.join("\n") + "\n");
+
+    let listing = listing(&kiosk);
+    let rows = table(&guide, "| part | Q of P |");
+    let ticks_of = |part| ticks.iter().filter(|&&holder| holder == part).count();
+    for row in &rows[1..5] {
+        let (number, name) = row[0].split_once(", ").expect("a number and a name");
+        let share = fields(&listing, &format!("share\t{}\t", name.trim_matches('`')));
+        assert_eq!(row[1], format!("{} of {}", share[3], share[2]));
+        let period: usize = share[2].parse().expect("a period");
+        assert_eq!(row[2], (CYCLE / period).to_string());
+        let number = number.parse().expect("a part's number");
+        assert_eq!(row[3], ticks_of(number).to_string());
+    }
+    assert_eq!(rows[5], ["unassigned", "", "", &ticks_of(0).to_string()]);
+    assert_eq!(rows.len(), 6);
+    let given = CYCLE - ticks_of(0);
+    let said = format!(
+        "{} with one in every period, and {given} ticks of 720",
+        load(&listing)
+    );
+    assert!(words(&guide).contains(&said), "{said}");
+    // The load is that of the lowest part, with an overrun in every period of the cycle.
+    let share =
+        |line: &str| -> Vec<usize> { line.split('\t').skip(2).flat_map(str::parse).collect() };
+    let shares = listing
+        .lines()
+        .filter(|line| line.starts_with("share"))
+        .map(share);
+    let with_overruns: usize = shares.map(|row| CYCLE / row[0] * (row[1] + row[2])).sum();
+    assert_eq!(load(&listing), format!("{with_overruns}/{CYCLE}"));
+}
+
+/// The words of a page, one blank between two.
+fn words(page: &str) -> String {
+    page.split_whitespace().collect::<Vec<_>>().join(" ")
+}
+
+#[test]
+fn m109_periods_out_of_the_cycle() {
+    let guide = source("docs/GUIDE.md");
+    let words = words(&guide);
+    let divisors = (1..720).filter(|&period| chart::divides_cycle(period));
+    let divisors: Vec<String> = divisors.map(|period| period.to_string()).collect();
+    assert_eq!(divisors.len() + 1, 30);
+    let said = format!("Thirty periods do: {} and 720.", divisors.join(", "));
+    assert!(words.contains(&said), "{said}");
+
+    let engine = source("examples/engine.plan");
+    let with_100 = with(&engine, "part\tmix\t90\n", "part\tmix\t100\n");
+    assert_eq!(
+        number_and_place(&charted(with_100.as_bytes(), CYCLE)),
+        (19, 2)
+    );
+    assert_eq!(number_and_place(&charted(engine.as_bytes(), CYCLE)), (0, 0));
+    let (one, other) = (load(&listing(&with_100)), load(&listing(&engine)));
+    assert!(words.contains(&format!(
+        "is planned with a load of {one} and has no chart; with `part mix 90` the load is {other},"
+    )));
 }

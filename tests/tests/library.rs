@@ -4,13 +4,14 @@
 
 use std::env;
 
+use reference::chart::CYCLE;
 use reference::edges::{self, BY_HAND, FIELDS, GOOD};
 use reference::file::LARGEST_NUMBER;
 use reference::random::{self, Random};
 use reference::system::Row;
 use reference::{
-    candidates, delivery, library, name, plan, programs, supply_answer, timing, weigh, Refusal,
-    PROGRAM_ROOM,
+    candidates, chart, delivery, library, name, plan, programs, supply_answer, timing, weigh,
+    Refusal, PROGRAM_ROOM,
 };
 
 /// Every part number of a file of up to 16 parts, and some that no part has.
@@ -40,19 +41,39 @@ fn pattern(place: usize) -> u8 {
     (place * 7 + 3) as u8
 }
 
-/// The plan in a buffer of that many bytes: on success the listing stands in front, and every
-/// other byte is as it was.
-fn same_plan(file: &[u8], room: usize) -> Result<usize, Refusal> {
+/// An operation of the library in a buffer of that many bytes, against what must be written: on
+/// success that stands in front, and every other byte is as it was.
+fn same_bytes(
+    file: &[u8],
+    room: usize,
+    of_library: fn(&[u8], &mut [u8]) -> Result<usize, Refusal>,
+    bytes: Result<Vec<u8>, Refusal>,
+) -> Result<usize, Refusal> {
     let mut out: Vec<u8> = (0..room).map(pattern).collect();
-    let answer = library::plan(file, &mut out);
-    let listing = plan(file, room);
+    let answer = of_library(file, &mut out);
     let text = String::from_utf8_lossy(file);
-    let written = listing.as_ref().map(Vec::len).map_err(|refusal| *refusal);
+    let written = bytes.as_ref().map(Vec::len).map_err(|refusal| *refusal);
     assert_eq!(answer, written, "{room} bytes for\n{text}");
-    let mut expected = listing.unwrap_or_default();
+    let mut expected = bytes.unwrap_or_default();
     expected.extend((expected.len()..room).map(pattern));
     assert!(out == expected, "{room} bytes for\n{text}");
     answer
+}
+
+fn same_plan(file: &[u8], room: usize) -> Result<usize, Refusal> {
+    same_bytes(file, room, library::plan, plan(file, room))
+}
+
+fn same_chart(file: &[u8], room: usize) -> Result<usize, Refusal> {
+    same_bytes(file, room, library::chart, chart(file, room))
+}
+
+/// The chart in rooms that are too short, just enough and more.
+fn same_chart_in_rooms(file: &[u8]) -> Result<usize, Refusal> {
+    for room in [0, 1, CYCLE / 2, CYCLE - 1, CYCLE + 1, PROGRAM_ROOM] {
+        let _ = same_chart(file, room);
+    }
+    same_chart(file, CYCLE)
 }
 
 /// The plan in every room up to two bytes more than its listing has.
@@ -120,6 +141,49 @@ fn plans_in_every_room() {
         .chain(&random::made_up(random, rounds(40)))
     {
         same_in_every_room(file);
+    }
+}
+
+#[test]
+fn charts_of_the_cases_and_the_bench_files_and_the_examples() {
+    let answers = files().into_iter().map(|file| same_chart(&file, CYCLE));
+    assert!(answers.filter(Result::is_ok).count() > 20);
+}
+
+#[test]
+fn charts_of_made_up_files() {
+    let random = &mut Random::new(9);
+    let (mut charted, mut out_of_cycle) = (0, 0);
+    for file in random::made_up_for_charts(random, rounds(1500)) {
+        match same_chart(&file, CYCLE) {
+            Ok(_) => charted += 1,
+            Err(refusal) => out_of_cycle += usize::from(refusal.number == 19),
+        }
+    }
+    assert!(
+        charted > 600 && out_of_cycle > 60,
+        "{charted}, {out_of_cycle}"
+    );
+}
+
+#[test]
+fn charts_in_other_rooms() {
+    let random = &mut Random::new(10);
+    let examples = timing::examples().expect("the examples").into_iter();
+    let mut files = random::made_up_for_charts(random, rounds(200));
+    files.extend(examples.map(|example| example.bytes));
+    files.extend(cases().into_iter().step_by(8));
+    for file in files {
+        let answer = same_chart_in_rooms(&file);
+        let room = random.index(2 * CYCLE);
+        assert_eq!(
+            same_chart(&file, room).is_ok(),
+            answer.is_ok() && CYCLE <= room
+        );
+    }
+    let file = b"part\tp\t720\ntask\tt\t720\t720\t720\nend\n";
+    for room in 0..2 * CYCLE {
+        assert_eq!(same_chart(file, room).is_ok(), CYCLE <= room);
     }
 }
 

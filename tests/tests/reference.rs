@@ -2,12 +2,14 @@
 //! readings of the paper's open places.
 
 use reference::by_hand::{SUPPLIES, WEIGHINGS};
+use reference::chart::{self, CYCLE};
 use reference::edges::{self, BY_HAND, FIELDS, GOOD};
 use reference::file::{self, Part, LARGEST_NUMBER, LONGEST_FILE};
 use reference::local::{self, Local, Pair};
 use reference::random::{self, Random, Sizes};
 use reference::system::{self, Candidates, Row, Weighing};
 use reference::{candidates, literal, name, number_and_place, plan, printed, programs};
+use reference::{chart as charted, same_search};
 use reference::{supply_answer, timing, weigh, Refusal, PROGRAM_ROOM};
 
 // ---- helpers ----
@@ -1518,4 +1520,370 @@ fn n13_room_for_the_listing() {
             place: 0
         })
     );
+}
+
+// ---- the chart of a cycle ----
+
+/// The numbers of a chart's answers in a room of a cycle: planned, refused with 10, 11 or 19, or for
+/// what a line has.
+#[derive(Debug, Default)]
+struct Charts {
+    charted: usize,
+    refused_10: usize,
+    refused_11: usize,
+    refused_19: usize,
+    unread: usize,
+}
+
+impl Charts {
+    fn count(&mut self, number: u32) {
+        match number {
+            0 => self.charted += 1,
+            10 => self.refused_10 += 1,
+            11 => self.refused_11 += 1,
+            19 => self.refused_19 += 1,
+            1..=9 => self.unread += 1,
+            _ => panic!("refused with {number}"),
+        }
+    }
+}
+
+/// The chart by the library's way of making it.
+fn placed(file: &[u8], room: usize) -> Result<Vec<u8>, Refusal> {
+    let mut out = vec![b'x'; room];
+    let written = same_search::chart(file, &mut out);
+    let untouched = written.as_ref().map_or(0, |&written| written);
+    assert!(out[untouched..].iter().all(|&byte| byte == b'x'));
+    out.truncate(untouched);
+    written.map(|_| out)
+}
+
+/// The chart as it is made in both fast ways, or its refusal.
+fn charted_by_both(file: &[u8], room: usize) -> Result<Vec<u8>, Refusal> {
+    let answer = charted(file, room);
+    assert_eq!(answer, placed(file, room), "{}", lossy(file));
+    answer
+}
+
+/// The rows of the plan, from the `share` lines of its listing.
+fn planned_rows(file: &[u8]) -> Vec<literal::Row> {
+    let listing = lossy(&plan(file, PROGRAM_ROOM).expect("a plan"));
+    let shares = listing.lines().filter(|line| line.starts_with("share"));
+    let row = |line: &str| {
+        let numbers = line
+            .split('\t')
+            .skip(2)
+            .map(|field| field.parse().expect("a number"));
+        let numbers: Vec<i64> = numbers.collect();
+        (numbers[0], numbers[1], numbers[2])
+    };
+    shares.map(row).collect()
+}
+
+/// How often a part has a tick of these.
+fn ticks_of(part: usize, ticks: &[u8]) -> i64 {
+    ticks
+        .iter()
+        .filter(|&&holder| holder as usize == part)
+        .count() as i64
+}
+
+/// Every part gets exactly Q ticks in each of its periods, in the cycle and in two repetitions; the
+/// other ticks are nobody's.
+fn every_period_has_its_budget(chart: &[u8], rows: &[literal::Row]) {
+    assert_eq!(chart.len(), CYCLE);
+    let mut free = CYCLE as i64;
+    for (part, &(p, q, _)) in (1..).zip(rows) {
+        for period in chart.repeat(3).chunks(p as usize) {
+            assert_eq!(ticks_of(part, period), q, "part {part} of {rows:?}");
+        }
+        free -= q * CYCLE as i64 / p;
+    }
+    assert_eq!(ticks_of(0, chart), free, "{rows:?}");
+}
+
+/// The same chart or the same refusal by brute force, which looks at `all` choices or only at those
+/// of kept pairs.
+fn same_chart(file: &[u8], all: bool) -> u32 {
+    let fast = charted_by_both(file, CYCLE);
+    let slow = match all {
+        true => literal::chart(file, CYCLE),
+        false => literal::chart_of_kept(file, CYCLE),
+    };
+    assert_eq!(fast.clone().map_err(tuple), slow, "{}", lossy(file));
+    if let Ok(chart) = &fast {
+        let rows = planned_rows(file);
+        every_period_has_its_budget(chart, &rows);
+        assert_eq!(literal::ticks(&rows, 3 * CYCLE as i64), chart.repeat(3));
+    }
+    number_and_place(&fast).0
+}
+
+#[test]
+fn small_charts_equal_brute_force() {
+    let mut random = Random::new(10);
+    let mut seen = Charts::default();
+    for round in 0..1200 {
+        let sizes = [Sizes::two_parts(), Sizes::three_parts(), Sizes::one_part()];
+        let file = random::valid(&mut random, &sizes[round % 3]);
+        let file = random::in_cycle(&mut random, &file);
+        let file = match round % 8 {
+            0 => random::damaged(&mut random, &file),
+            _ => file,
+        };
+        // Damage may make numbers long or add many locks; brute force would take too long then.
+        let is_small = |part: &Part| part.locks.len() <= 3 && part.tasks.len() <= 6;
+        let small = |parts: &[Part]| parts.iter().all(is_small) && largest_number(parts) <= 2000;
+        if file::read(&file).is_ok_and(|parts| parts.len() > 3 || !small(&parts)) {
+            continue;
+        }
+        seen.count(same_chart(&file, true));
+    }
+    println!("{seen:?}");
+    let Charts {
+        charted,
+        refused_10,
+        refused_11,
+        refused_19,
+        unread,
+    } = seen;
+    assert!(charted > 300 && refused_10 > 20 && refused_11 > 100);
+    assert!(refused_19 > 20 && unread > 50);
+}
+
+#[test]
+fn charts_of_made_up_files_keep_every_budget() {
+    let mut random = Random::new(11);
+    let mut seen = Charts::default();
+    let mut parts = [0; 17];
+    for file in random::made_up_for_charts(&mut random, 4000) {
+        let answer = charted_by_both(&file, CYCLE);
+        seen.count(number_and_place(&answer).0);
+        if let Ok(chart) = answer {
+            let rows = planned_rows(&file);
+            every_period_has_its_budget(&chart, &rows);
+            assert_eq!(literal::ticks(&rows, 2 * CYCLE as i64), chart.repeat(2));
+            parts[rows.len()] += 1;
+        }
+    }
+    println!("{seen:?}, by parts {parts:?}");
+    assert!(seen.charted > 1000 && seen.refused_19 > 100);
+    assert!((1..=16).all(|count| parts[count] > 10), "{parts:?}");
+}
+
+/// "Accepted" is any rows that pass the system test, not only those of least load.
+#[test]
+fn m109_every_accepted_choice_of_rows_keeps_every_budget() {
+    let mut random = Random::new(12);
+    let divisors: Vec<u64> = (1..=720).filter(|&p| chart::divides_cycle(p)).collect();
+    assert_eq!(divisors.len(), 30);
+    let mut accepted = 0;
+    for _ in 0..40_000 {
+        let count = random.within(1..=16);
+        let row = |_| {
+            let period = divisors[random.index(30)];
+            let budget = random.within(1..=(period / count).max(1));
+            let holding = random.within(0..=7).saturating_sub(4);
+            (period, budget, holding)
+        };
+        let mut rows: Vec<(u64, u64, u64)> = (0..count).map(row).collect();
+        if !random.once_in(4) {
+            rows.sort_by(|one, other| other.0.cmp(&one.0));
+        }
+        let list: Vec<Row> = rows.iter().copied().map(Row::from).collect();
+        if weigh(&list).is_ok() {
+            let chart = chart::of_rows(&list);
+            every_period_has_its_budget(&chart, &signed_rows(&list));
+            assert_eq!(chart, literal::ticks(&signed_rows(&list), CYCLE as i64));
+            assert_eq!(ticks_of(0, &chart) as u64, chart::unassigned(&list));
+            accepted += 1;
+        }
+    }
+    assert!(accepted > 2000, "{accepted} accepted");
+}
+
+#[test]
+fn charts_of_the_examples_equal_brute_force() {
+    let examples = timing::examples().expect("the examples");
+    for example in &examples {
+        let number = same_chart(&example.bytes, false);
+        let first = example.name.ends_with("-first");
+        assert_eq!(number, if first { 11 } else { 0 }, "{}", example.name);
+    }
+}
+
+#[test]
+fn charts_of_the_test_program_equal_brute_force() {
+    let mut charted = 0;
+    for file in programs::CHARTS.files().expect("the charts") {
+        let parts = file::read(&file.bytes).unwrap_or_default();
+        // Brute force over all budgets of so long a period would take too long.
+        if largest_number(&parts) < 100_000 {
+            charted += usize::from(same_chart(&file.bytes, false) == 0);
+        }
+    }
+    assert!(charted > 10, "{charted} charted");
+}
+
+/// One part that has its whole period, or as much of it.
+fn one_part(period: u64, budget: u64) -> Vec<u8> {
+    let task = format!("task t {period} {budget} {period}");
+    w(&[&format!("part p {period}"), &task, "end"])
+}
+
+/// Parts with these periods, lowest first, each with little work.
+fn parts_of(periods: &[u64]) -> Vec<u8> {
+    let mut lines = Vec::new();
+    for (index, period) in periods.iter().enumerate() {
+        lines.push(format!("part p{index} {period}"));
+        lines.push(format!("task t {0} 1 {0}", 4 * period.min(&250_000)));
+    }
+    lines.push("end".into());
+    w(&lines)
+}
+
+/// Number and place of a chart in this room.
+fn uncharted(file: &[u8], room: usize) -> (u32, usize) {
+    number_and_place(&charted_by_both(file, room))
+}
+
+#[test]
+fn m109_a_byte_is_the_number_of_a_part_and_no_digit() {
+    assert_eq!(
+        charted_by_both(&one_part(720, 720), CYCLE),
+        Ok(vec![1; CYCLE])
+    );
+    assert_eq!(charted_by_both(&one_part(1, 1), CYCLE), Ok(vec![1; CYCLE]));
+    let sixteen = charted_by_both(&parts_of(&[720; 16]), CYCLE).expect("a chart");
+    let falling: Vec<u8> = (1..=16).rev().collect();
+    assert_eq!(sixteen[..16], falling);
+    assert!(sixteen[16..].iter().all(|&byte| byte == 0));
+}
+
+#[test]
+fn m109_the_highest_part_is_the_later_row() {
+    let chart = charted_by_both(&w(&A), CYCLE).expect("a chart");
+    let period: [u8; 20] = [2, 2, 2, 1, 1, 1, 0, 0, 0, 0, 2, 2, 2, 0, 0, 0, 0, 0, 0, 0];
+    assert_eq!(chart, period.repeat(36));
+    // A part that is interrupted goes on in the higher part's next period.
+    let file = w(&[
+        "part low 720",
+        "task t 1440 180 1440",
+        "part high 10",
+        "task t 100 40 100",
+        "end",
+    ]);
+    let rows = planned_rows(&file);
+    let chart = charted_by_both(&file, CYCLE).expect("a chart");
+    every_period_has_its_budget(&chart, &rows);
+    assert_eq!(rows[1].0, 10);
+    assert_eq!(chart[9], 1);
+    assert_eq!(chart[10], 2);
+}
+
+#[test]
+fn m109_1_to_11_are_asked_before_19_and_19_before_14() {
+    // 10 and 11 with a period of 7, and 9.
+    let part_7 = ["part q 7", "task t 70 1 70"];
+    let none = ["part p 10", "task t 10 6 10", "task u 10 6 10"];
+    let with_7 = |lines: &[&str]| w(&[&part_7[..], lines, &["end"]].concat());
+    assert_eq!(uncharted(&with_7(&none), 0), (10, 2));
+    assert_eq!(
+        uncharted(&w(&[&none[..], &part_7, &["end"]].concat()), 0),
+        (10, 1)
+    );
+    let full = ["part p 10", "task t 10 10 10"];
+    assert_eq!(uncharted(&with_7(&full), 0), (11, 0));
+    assert_eq!(uncharted(&with_7(&["part q 9", "task t 9 1 9"]), 0), (6, 3));
+    for room in [0, 719, 720, 721] {
+        assert_eq!(
+            uncharted(&w(&["part p 7", "task t 70 1 70", "end"]), room),
+            (19, 1)
+        );
+    }
+    assert_eq!(
+        uncharted(&w(&["part p 10", "task t 70 1 70", "end"]), 719),
+        (14, 0)
+    );
+}
+
+#[test]
+fn m109_the_first_part_out_of_cycle_is_named() {
+    for (periods, place) in [
+        (&[7, 10, 10][..], 1),
+        (&[10, 7, 10], 2),
+        (&[10, 10, 7], 3),
+        (&[10, 7, 7], 2),
+        (&[7, 7, 7], 1),
+        (&[721], 1),
+        (&[720, 721], 2),
+        (&[1_000_000, 720], 1),
+        (&[1_000_000], 1),
+        (&[1440, 720], 1),
+        (&[480, 720], 1),
+        (&[720, 719], 2),
+    ] {
+        assert_eq!(
+            uncharted(&parts_of(periods), CYCLE),
+            (19, place),
+            "{periods:?}"
+        );
+    }
+    for period in 1..=1500 {
+        let answer = uncharted(&parts_of(&[period]), CYCLE).0;
+        let divides = (1..=720).any(|periods| periods * period == 720);
+        assert_eq!(answer, if divides { 0 } else { 19 }, "{period}");
+    }
+}
+
+#[test]
+fn m109_720_bytes_are_enough_and_the_listing_may_be_longer() {
+    let file = one_part(720, 720);
+    for room in [0, 1, 719] {
+        assert_eq!(uncharted(&file, room), (14, 0));
+    }
+    for room in [720, 721, PROGRAM_ROOM] {
+        assert_eq!(
+            charted_by_both(&file, room).map(|chart| chart.len()),
+            Ok(CYCLE)
+        );
+    }
+    // The listing's own length is not asked.
+    let names: Vec<String> = (0..8)
+        .map(|lock| format!("lock longlo{lock:02} 1"))
+        .collect();
+    let mut lines = Vec::new();
+    for part in 0..16 {
+        lines.push(format!("part longpt{part:02} 720"));
+        lines.push("task t 7200 1 7200".into());
+        lines.extend(names.clone());
+    }
+    lines.push("end".into());
+    let file = w(&lines);
+    assert_eq!(number_and_place(&plan(&file, CYCLE)), (14, 0));
+    assert_eq!(uncharted(&file, CYCLE), (0, 0));
+}
+
+/// A part with budget and period alike leaves no tick to one below it, which is then refused.
+#[test]
+fn m109_no_ticks_are_left_over() {
+    assert_eq!(planned_rows(&one_part(720, 720)), [(720, 720, 0)]);
+    let whole = [
+        "part low 720",
+        "task t 1440 1 1440",
+        "part p 1",
+        "task t 9 9 9",
+        "end",
+    ];
+    assert_eq!(uncharted(&w(&whole), CYCLE), (11, 0));
+    // Every tick is given: 1/2 and 1/2.
+    let file = w(&[
+        "part p 2",
+        "task t 22 10 22",
+        "part q 2",
+        "task t 22 10 22",
+        "end",
+    ]);
+    let rows = planned_rows(&file);
+    every_period_has_its_budget(&charted_by_both(&file, CYCLE).expect("a chart"), &rows);
 }

@@ -1,5 +1,5 @@
-//! All five operations: prints the plan of a file, the kept list of each of its parts, and of
-//! numbers set by hand the bounds, the load and the supply.
+//! All six operations: prints the plan of a file, the kept list of each of its parts, of numbers set
+//! by hand the bounds, the load and the supply, and the chart of a cycle.
 //!
 //!     operations [FILE]        without FILE from standard input
 //!
@@ -71,6 +71,22 @@ fn print_supply(out: &mut impl Write, period: u64, budget: u64, time: u64) -> io
     }
 }
 
+/// Which part has which tick of a cycle, 60 ticks a line; `.` where a tick is unassigned.
+fn print_chart(out: &mut impl Write, file: &[u8]) -> io::Result<()> {
+    match planner::chart(file) {
+        Ok(ticks) => {
+            writeln!(out, "chart:")?;
+            for line in ticks.chunks(60) {
+                let letter = |&part: &u8| b".123456789abcdefg"[usize::from(part)];
+                let line: Vec<u8> = line.iter().map(letter).chain([b'\n']).collect();
+                out.write_all(&line)?;
+            }
+            Ok(())
+        }
+        Err(refusal) => writeln!(out, "chart: {refusal}"),
+    }
+}
+
 /// Prints everything; whether the file is planned.
 fn print(out: &mut impl Write, file: &[u8]) -> io::Result<bool> {
     let plan = planner::plan(file);
@@ -83,6 +99,7 @@ fn print(out: &mut impl Write, file: &[u8]) -> io::Result<bool> {
     print_weighing(out, [(20, 9, 2), (10, 3, 3)])?;
     print_supply(out, 20, 3, 60)?;
     print_supply(out, 20, 3, MOST_NUMBER + 1)?;
+    print_chart(out, file)?;
     out.flush()?;
     Ok(plan.is_ok())
 }

@@ -1,9 +1,10 @@
 //! Plans one processor that several partitions share, where the partitions also share locks: the
 //! safe interface to a library whose every answer is proved (the repository's README.md).
 //!
-//! Five operations: [`plan`] (or [`plan_into`], which does not allocate), [`candidates`], [`name`],
-//! [`weigh`] and [`supply`]. Each takes any bytes and any numbers and gives its answer or a
-//! [`Refusal`]. Nothing is kept between calls, so they may be called from any threads at once.
+//! Six operations: [`plan`] (or [`plan_into`], which does not allocate), [`chart`] (or
+//! [`chart_into`], into lent bytes), [`candidates`], [`name`], [`weigh`] and [`supply`]. Each takes
+//! any bytes and any numbers and gives its answer or a [`Refusal`]. Nothing is kept between calls,
+//! so they may be called from any threads at once.
 //!
 //! ```
 //! let file = b"part\tcard\t20\ntask\tcopy\t80\t8\t80\nlock\tbuf\t2\nend\n";
@@ -51,9 +52,13 @@ pub const MOST_PAIRS: usize = 16;
 pub const MOST_ROWS: usize = 16;
 /// Bytes enough for any listing.
 pub const ROOM: usize = 8192;
+/// The ticks of a cycle, and so the bytes of a chart.
+pub const CYCLE: usize = 720;
 
 /// Bytes of stack that [`plan_into`] needs; [`plan`] has its listing on the heap.
-pub const STACK_PLAN: usize = 125 * 1024;
+pub const STACK_PLAN: usize = 152 * 1024;
+/// Bytes of stack that [`chart_into`] needs; [`chart`] needs some KB more for the chart given back.
+pub const STACK_CHART: usize = 96 * 1024;
 /// Bytes of stack that [`candidates`] needs.
 pub const STACK_CANDIDATES: usize = 63 * 1024;
 /// Bytes of stack that [`name`] needs.
@@ -62,25 +67,6 @@ pub const STACK_NAME: usize = 60 * 1024;
 pub const STACK_WEIGH: usize = 4 * 1024;
 /// Bytes of stack that [`supply`] needs.
 pub const STACK_SUPPLY: usize = 1024;
-
-/// What is wrong, by the number of a refusal.
-const TEXTS: [&str; 15] = [
-    "no refusal",
-    "the file is longer than 32,768 bytes",
-    "the line does not end with byte 10, or has a byte that is neither a tab nor 33 to 126",
-    "the line is not a part, task, lock or end with 3, 5, 3 or 1 fields",
-    "the record is not allowed here, or the file ends without an end line",
-    "the name is not 1 to 8 characters from a-z and 0-9",
-    "the name is not new among the parts of the file, tasks of the part or locks of the task",
-    "a number is not 1 to 1,000,000 in digits without a leading zero",
-    "C <= D <= T does not hold, or the lock is held for longer than its task's C",
-    "there are more than 16 parts, 16 tasks in the part or 8 different lock names in the part",
-    "the part has no permitted setting of ceilings with a budget",
-    "no choice for all parts passes the system test",
-    "a part number, a count of rows or a number set by hand is out of range",
-    "the row has no time t within its period with L(t) <= t",
-    "the listing does not fit the lent bytes",
-];
 
 /// Why there is no answer: the first question that has the answer no.
 ///
@@ -92,18 +78,34 @@ const TEXTS: [&str; 15] = [
 /// ```
 #[derive(Clone, Copy, Debug, PartialEq, Eq, Hash)]
 pub struct Refusal {
-    /// The number of the question, 1 to 14.
+    /// The number of the question, 1 to 14 or 19.
     pub number: u64,
-    /// The line (2 to 9), part (10) or row (12, 13) that it was asked of, counted from 1; else 0.
+    /// The line (2 to 9), part (10, 19) or row (12, 13) that it was asked of, counted from 1; else 0.
     pub place: u64,
 }
 
 impl Refusal {
     /// What is wrong. The repository's README.md says how to mend it.
     pub fn text(&self) -> &'static str {
-        let number = usize::try_from(self.number).ok();
-        let text = number.and_then(|number| TEXTS.get(number));
-        text.copied().unwrap_or("unknown refusal")
+        match self.number {
+            0 => "no refusal",
+            1 => "the file is longer than 32,768 bytes",
+            2 => "the line does not end with byte 10, or has a byte that is neither a tab nor 33 to 126",
+            3 => "the line is not a part, task, lock or end with 3, 5, 3 or 1 fields",
+            4 => "the record is not allowed here, or the file ends without an end line",
+            5 => "the name is not 1 to 8 characters from a-z and 0-9",
+            6 => "the name is not new among the parts of the file, tasks of the part or locks of the task",
+            7 => "a number is not 1 to 1,000,000 in digits without a leading zero",
+            8 => "C <= D <= T does not hold, or the lock is held for longer than its task's C",
+            9 => "there are more than 16 parts, 16 tasks in the part or 8 different lock names in the part",
+            10 => "the part has no permitted setting of ceilings with a budget",
+            11 => "no choice for all parts passes the system test",
+            12 => "a part number, a count of rows or a number set by hand is out of range",
+            13 => "the row has no time t within its period with L(t) <= t",
+            14 => "the listing or the chart does not fit the lent bytes",
+            19 => "the part's period does not divide 720, the ticks of a cycle",
+            _ => "unknown refusal",
+        }
     }
 }
 
@@ -154,6 +156,48 @@ pub fn plan_into<'a>(file: &[u8], out: &'a mut [u8]) -> Result<&'a mut [u8], Ref
     // for writing, so it does not overlap `file`.
     let answer =
         unsafe { raw::planner_plan(file.as_ptr(), file.len(), out.as_mut_ptr(), out.len()) };
+    settled(answer.number, answer.place)?;
+    Ok(&mut out[..answer.written])
+}
+
+/// The chart of the plan of a file whose periods all divide [`CYCLE`]: the number of the part that
+/// has each tick of a cycle, counted from 1, or 0 where a tick is unassigned. All parts start together
+/// at tick 0, each is due its budget from the start of each of its periods, and a tick goes to the
+/// highest part still due. So every part has exactly its budget in each of its periods, in this cycle
+/// and in each repetition; ticks for overruns and switching stay unassigned. Refusals 1 to 11, then 19
+/// at the first part with another period.
+///
+/// ```
+/// let file = b"part\tlow\t6\ntask\tt\t60\t10\t60\npart\thigh\t4\ntask\tt\t40\t8\t40\nend\n";
+/// let chart = planner::chart(file)?;
+/// assert_eq!(chart[..12], [2, 1, 1, 0, 2, 0, 1, 1, 2, 0, 0, 0]);
+/// assert_eq!(chart.to_vec(), chart[..12].repeat(60));
+/// let refusal = planner::chart(b"part\tp\t7\ntask\tt\t70\t1\t70\nend\n").unwrap_err();
+/// assert_eq!((refusal.number, refusal.place), (19, 1));
+/// # Ok::<(), planner::Refusal>(())
+/// ```
+pub fn chart(file: &[u8]) -> Result<[u8; CYCLE], Refusal> {
+    let mut out = [0; CYCLE];
+    chart_into(file, &mut out)?;
+    Ok(out)
+}
+
+/// The chart of the plan of a file, written to the first [`CYCLE`] bytes of `out`: these are given
+/// back, and the others stay as they were. Refusals 1 to 11, then 19, then 14; then every byte of
+/// `out` stays as it was.
+///
+/// ```
+/// let mut out = [255; planner::CYCLE + 1];
+/// let chart = planner::chart_into(b"part\tp\t10\ntask\tt\t10\t10\t10\nend\n", &mut out)?;
+/// assert_eq!(chart, [1; planner::CYCLE]);
+/// assert_eq!(out[planner::CYCLE], 255);
+/// # Ok::<(), planner::Refusal>(())
+/// ```
+pub fn chart_into<'a>(file: &[u8], out: &'a mut [u8]) -> Result<&'a mut [u8], Refusal> {
+    // SAFETY: pointers and lengths are those of slices, which are never null; `out` is borrowed
+    // for writing, so it does not overlap `file`.
+    let answer =
+        unsafe { raw::planner_chart(file.as_ptr(), file.len(), out.as_mut_ptr(), out.len()) };
     settled(answer.number, answer.place)?;
     Ok(&mut out[..answer.written])
 }

@@ -14,7 +14,7 @@
 
 use crate::{MOST_PAIRS, MOST_ROWS};
 
-/// The answer of [`planner_plan`].
+/// The answer of [`planner_plan`] and [`planner_chart`].
 #[repr(C)]
 #[derive(Clone, Copy, Debug, PartialEq, Eq)]
 pub struct PlanAnswer {
@@ -22,7 +22,7 @@ pub struct PlanAnswer {
     pub number: u64,
     /// Place of the refusal.
     pub place: u64,
-    /// Bytes of the listing.
+    /// Bytes of the listing or of the chart.
     pub written: usize,
 }
 
@@ -133,6 +133,13 @@ extern "C" {
     /// them meanwhile, `room` bytes can be written to `out` and nobody else uses them meanwhile, and
     /// the two do not overlap.
     pub fn planner_plan(file: *const u8, length: usize, out: *mut u8, room: usize) -> PlanAnswer;
+
+    /// The chart of the plan of a file, written to `out`.
+    ///
+    /// # Safety
+    ///
+    /// As of [`planner_plan`].
+    pub fn planner_chart(file: *const u8, length: usize, out: *mut u8, room: usize) -> PlanAnswer;
 
     /// The kept list of a part, counted from 1.
     ///

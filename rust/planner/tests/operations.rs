@@ -50,6 +50,39 @@ fn a_refused_plan_leaves_the_lent_bytes_alone() {
     assert_eq!(refused(plan_into(&both(), &mut [])), (14, 0));
 }
 
+/// The first period of card in the chart of both: print has 3 of every 10 ticks, card 3 of 20.
+const TICKS: [u8; 20] = [2, 2, 2, 1, 1, 1, 0, 0, 0, 0, 2, 2, 2, 0, 0, 0, 0, 0, 0, 0];
+
+#[test]
+fn a_chart_is_the_same_given_back_and_lent() {
+    let ticks = TICKS.repeat(CYCLE / 20);
+    assert_eq!(
+        chart(&both()).map(|chart| chart.to_vec()),
+        Ok(ticks.clone())
+    );
+    for spare in [0, 1, ROOM] {
+        let mut out = vec![b'.'; CYCLE + spare];
+        let chart = chart_into(&both(), &mut out).map(|chart| chart.to_vec());
+        assert_eq!(chart.as_ref(), Ok(&ticks));
+        assert_eq!(out, [&ticks[..], &vec![b'.'; spare]].concat());
+    }
+}
+
+#[test]
+fn a_refused_chart_leaves_the_lent_bytes_alone() {
+    let mut out = vec![b'.'; CYCLE];
+    assert_eq!(refused(chart_into(&both(), &mut out[1..])), (14, 0));
+    assert_eq!(refused(chart_into(b"end\n", &mut out)), (4, 1));
+    let out_of_cycle = format!("{}{PRINT}end\n", CARD.replace("card\t20", "card\t21"));
+    assert_eq!(
+        refused(chart_into(out_of_cycle.as_bytes(), &mut out)),
+        (19, 1)
+    );
+    assert_eq!(refused(chart(out_of_cycle.as_bytes())), (19, 1));
+    assert!(out.iter().all(|&byte| byte == b'.'));
+    assert_eq!(refused(chart_into(&both(), &mut [])), (14, 0));
+}
+
 #[test]
 fn a_name_is_a_stretch_of_the_file() {
     let file = both();
@@ -111,6 +144,7 @@ fn refusals_of_a_file() {
     for (number, (place, file)) in (1..).zip(refused_files()) {
         let file = file.as_bytes();
         assert_eq!(refused(plan(file)), (number, place));
+        assert_eq!(refused(chart(file)), (number, place));
         if number < 10 {
             assert_eq!(refused(name(file, 1)), (number, place));
         }
@@ -149,11 +183,11 @@ fn the_longest_file_is_read() {
 fn the_text_of_a_refusal() {
     let text = |number| Refusal { number, place: 3 }.text();
     assert_eq!(text(0), "no refusal");
-    for number in [15, u64::MAX] {
+    for number in [15, 16, 17, 18, 20, u64::MAX] {
         assert_eq!(text(number), "unknown refusal");
     }
-    for number in 1..15 {
-        assert!((0..=15).all(|other| other == number || text(other) != text(number)));
+    for number in (1..15).chain([19]) {
+        assert!((0..=20).all(|other| other == number || text(other) != text(number)));
     }
     let told = |file: &[u8]| -> Result<String, Box<dyn Error>> { Ok(plan(file)?) };
     let error = told(b"part\tcard\n").expect_err("a refusal");
@@ -172,11 +206,16 @@ fn calls_at_the_same_time_in_small_threads() {
     let small = |bytes| thread::Builder::new().stack_size(bytes + BESIDE);
     thread::scope(|scope| {
         let plans = [(); 8].map(|_| small(STACK_PLAN).spawn_scoped(scope, || plan(&file)));
+        let charts = [(); 8].map(|_| small(STACK_CHART).spawn_scoped(scope, || chart(&file)));
         let lists =
             [(); 8].map(|_| small(STACK_CANDIDATES).spawn_scoped(scope, || candidates(&file, 2)));
         for plan in plans {
             let answer = plan.expect("a thread").join().expect("an answer");
             assert_eq!(answer.as_deref(), Ok(LISTING));
+        }
+        for chart in charts {
+            let answer = chart.expect("a thread").join().expect("an answer");
+            assert_eq!(answer.map(|ticks| ticks[..20] == TICKS), Ok(true));
         }
         for list in lists {
             let answer = list.expect("a thread").join().expect("an answer");

@@ -1,12 +1,13 @@
 //! Times the planner's own library against the reference, in one run, on the files of bench/: the
-//! whole plan; the candidates of every part, where every call reads the whole file first; and so
+//! whole plan; the chart, of a file that has one; the candidates of every part, where every call reads the whole file first; and so
 //! the reading alone (part 0, which is refused behind it).
 
 use std::error::Error;
 use std::hint::black_box;
 
+use reference::chart::CYCLE;
 use reference::timing::{self, time_of, BenchFile};
-use reference::{candidates, file, plan, PROGRAM_ROOM};
+use reference::{candidates, chart, file, plan, PROGRAM_ROOM};
 
 fn line(name: &str, what: &str, ours: u128, theirs: u128) {
     let ratio = ours as f64 / theirs as f64;
@@ -23,6 +24,11 @@ fn main() -> Result<(), Box<dyn Error>> {
         let ours = time_of(|| planner::plan_into(black_box(&bytes), &mut out).is_ok());
         let theirs = time_of(|| plan(black_box(&bytes), PROGRAM_ROOM));
         line(&name, "plan", ours, theirs);
+        if planner::chart(&bytes).is_ok() {
+            let ours = time_of(|| planner::chart_into(black_box(&bytes), &mut out).is_ok());
+            let theirs = time_of(|| chart(black_box(&bytes), CYCLE));
+            line(&name, "chart", ours, theirs);
+        }
         for (what, numbers) in [("read", 0..=0), ("candidates", 1..=parts)] {
             let ours = time_of(|| {
                 for part in numbers.clone() {
