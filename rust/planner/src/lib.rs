@@ -56,7 +56,7 @@ pub const ROOM: usize = 8192;
 pub const CYCLE: usize = 720;
 
 /// Bytes of stack that [`plan_into`] needs; [`plan`] has its listing on the heap.
-pub const STACK_PLAN: usize = 152 * 1024;
+pub const STACK_PLAN: usize = 125 * 1024;
 /// Bytes of stack that [`chart_into`] needs; [`chart`] needs some KB more for the chart given back.
 pub const STACK_CHART: usize = 96 * 1024;
 /// Bytes of stack that [`candidates`] needs.
