@@ -1,3 +1,4 @@
 pub mod KeptRows
 pub mod PlanRows
 pub mod ChartRows
+pub mod Handing

@@ -1,4 +1,4 @@
-// The chart of one cycle of a file's plan, in the lent bytes.
+// The chart of one cycle of the rows of a plan, in the lent bytes.
 use answers::Planned;
 use load::Rows;
 use refusal::CYCLE;
@@ -7,11 +7,11 @@ use refusal::Refusal;
 ghost use lib.ListN.{length};
 ghost use Rattle.load.specs.Weigh.{rowsOf};
 ghost use Rattle.load.specs.Code.Rows.{FineRows};
-ghost use Rattle.answers.specs.Answers.{HandedOver, ChartAnswered};
+ghost use Rattle.answers.specs.Answers.{HandedOver};
 ghost use Rattle.charting.specs.Code.Charted.{chartOfRows};
 
-// The chart of the rows of a plan: question 19 of each, then 14.
-fn chart_rows(rows: Rows, out: &mut [u8]) -> Planned
+// The chart of the rows of a plan: question 19 of each, then 14. Its 720 bytes are the first ones lent, the others stay as they were; on refusal all do.
+pub fn chart_rows(rows: Rows, out: &mut [u8]) -> Planned
     requires { ⌜ FineRows rows ⌝ }
     ensures { λ r. ⌜ HandedOver (chartOfRows (rowsOf rows) (length (now (out .entry)))) (now (out .entry)) r (now (out .exit)) ⌝ }
 {
@@ -32,21 +32,5 @@ fn chart_rows(rows: Rows, out: &mut [u8]) -> Planned
     Planned {
         outcome: Outcome::Done,
         written: CYCLE,
-    }
-}
-
-// The chart of one cycle of a file's plan: questions 1 to 11, then 19, then 14. Its 720 bytes are the first ones lent, the others stay as they were; on refusal all do.
-pub fn chart(file: &[u8], out: &mut [u8]) -> Planned
-    ensures { λ r. ⌜ ChartAnswered (now (file .entry)) (now (out .entry)) r (now (out .exit)) ⌝ }
-{
-    let f = reader::read_file(file, 1);
-    let p = planning::choose(f);
-    let o = p.outcome;
-    match o {
-        Outcome::Refused(r) => Planned {
-            outcome: Outcome::Refused(r),
-            written: 0,
-        },
-        Outcome::Done => chart_rows(p.rows, out),
     }
 }

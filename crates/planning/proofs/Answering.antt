@@ -1,9 +1,10 @@
--- The answer of `plan`, from the rows of least load: what is measured and written is the listing of the definition, and the refusals are its refusals.
+-- The answer of `plan`, from the rows of least load: what is measured and written is the listing of the definition, and the refusals are its refusals. Those of
+-- questions 1 to 11 are the chart's too.
 -- Assumes nothing.
 use Prim.Native.Nat.{ℕ, suc, _≤_, _<_}
 use native.Mathlib.Omega.{arith}
 use mathlib.Core.Path.{_≡_, sym, ap, subst, _∙_}
-use mathlib.Core.Bool.{cond}
+use mathlib.Core.Bool.{Bool, true, false, cond}
 use mathlib.Core.List.{List, _++_, map}
 use borrow.Author.Tests.{le-leb, lt-leb}
 use lib.Dec.{leb}
@@ -38,25 +39,23 @@ use Rattle.reader.specs.Code.Reader.{partsIn, ReadIs}
 use Rattle.reader.proofs.Handed.{parts-count}
 use Rattle.answers.specs.Parts.{sharesOf}
 use Rattle.answers.specs.Answers.{planOf, planned, bufferAfter, HandedOver, PlanAnswered, listedIn}
-use Rattle.answers.specs.Plan.{Plan, planText}
+use Rattle.answers.specs.Plan.{Plan, planFile, planText}
+use Rattle.answers.proofs.Handing.{refused-over}
+use Rattle.answers.proofs.ChartRows.{chart-unplanned}
 use Rattle.answers.proofs.PlanRows.{shares-bounds, listed-or-14}
 use Rattle.offers.specs.Code.Least.{planRowsFrom}
 use Rattle.printing.specs.Code.Printing.{listingAt, sharesIn, ToPrint, EachFine, AllShownAre}
 use Rattle.printing.proofs.Ceilings.{shares-shown}
-use Rattle.planning.specs.Code.Chosen.{rowsRead, PlanIs}
+use Rattle.planning.specs.Code.Chosen.{PlanIs, answerOf}
 use Rattle.planning.proofs.Planning.{file-fine, listing-same, buffer-same, each-fine}
 use Rattle.planning.proofs.Weighed.{rows-in-range, kept-weighed}
-use Rattle.planning.proofs.Choosing.{plan-refused, readable, reads, count-is, rows-room, plan-is, kept, passes, rows-length}
-
--- a refusal has zeros everywhere else, and no byte changes
-pub refused-over : (a : Answer (List ℕ)) (out : List ℕ) (r : Refusal) → a ≡ refused r → HandedOver a out (record { outcome = Refused r; written = 0 }) out
-unfolding planned bufferAfter
-refused-over a out r e = record { result = sym (ap planned e); bytes = sym (ap (λ (b : Answer (List ℕ)). bufferAfter b out) e) }
+use Rattle.planning.proofs.Choosing.{readable, reads, count-is, rows-room, plan-is, kept, passes, rows-length}
 
 -- questions 1 to 11
-pub none-chosen : (s : List ℕ) (f : PlanFile) → ReadIs s f → (r : Refusal) → planRowsFrom (rowsRead f) .outcome ≡ Refused r → (out : List ℕ) → PlanAnswered s out (record { outcome = Refused r; written = 0 }) out
-unfolding planOf whenAnswered
-none-chosen s f is r h out = refused-over (planOf s (length out)) out r (ap (λ (a : Answer Plan). whenAnswered a (listedIn (length out))) (plan-refused s f is r h))
+pub answer-refused : (charted : Bool) (s : List ℕ) (room : ℕ) (r : Refusal) → planFile s ≡ refused r → answerOf charted s room ≡ refused r
+unfolding answerOf planOf whenAnswered
+answer-refused true s room r e = chart-unplanned room s r e
+answer-refused false s room r e = ap (λ (a : Answer Plan). whenAnswered a (listedIn room)) e
 
 -- some choice passes
 module _ (s : List ℕ) (f : PlanFile) (rows : Rows) (is : PlanIs s f rows) where

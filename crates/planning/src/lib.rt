@@ -1,4 +1,4 @@
-// The plan of a file, and its listing in the lent bytes.
+// The plan of a file, and its listing or its chart in the lent bytes.
 use answers::Planned;
 use load::Rows;
 use offers::PlanRows;
@@ -9,10 +9,11 @@ use refusal::Refusal;
 ghost use mathlib.Core.Path.{_≡_};
 ghost use Prim.Native.Nat.{_≤_};
 ghost use Rattle.refusal.specs.declared.Outcome.the-variants.{Done};
-ghost use Rattle.answers.specs.Answers.{PlanAnswered};
+ghost use lib.ListN.{length};
+ghost use Rattle.answers.specs.Answers.{HandedOver, PlanAnswered, ChartAnswered};
 ghost use Rattle.offers.specs.Code.Gathered.{FineParts};
 ghost use Rattle.offers.specs.Code.Least.{planRowsFrom};
-ghost use Rattle.planning.specs.Code.Chosen.{rowsRead, PlanIs};
+ghost use Rattle.planning.specs.Code.Chosen.{rowsRead, PlanIs, answerOf};
 
 // The rows of the plan of a file that was read, or its refusal: 1 to 9 are the reader's, 10 and 11 are asked here. What was read and these rows are the plan.
 pub fn choose(f: PlanFile) -> PlanRows
@@ -58,9 +59,10 @@ fn print_plan(file: &[u8], f: PlanFile, rows: Rows, out: &mut [u8]) -> Planned
     }
 }
 
-// The plan of a file: questions 1 to 11, then 14. Its listing is in the first bytes lent, the others stay as they were; on refusal all do.
-pub fn plan(file: &[u8], out: &mut [u8]) -> Planned
-    ensures { λ r. ⌜ PlanAnswered (now (file .entry)) (now (out .entry)) r (now (out .exit)) ⌝ }
+// The listing of a file's plan or, if `charted`, its chart: questions 1 to 11, then 14 of the listing, or 19 and 14 of the chart. It is one function for both, so
+// that the struct of the file is not copied for the search.
+fn answer(file: &[u8], out: &mut [u8], charted: bool) -> Planned
+    ensures { λ r. ⌜ HandedOver (answerOf charted (now (file .entry)) (length (now (out .entry)))) (now (out .entry)) r (now (out .exit)) ⌝ }
 {
     let f = reader::read_file(file, 1);
     let p = choose(f);
@@ -70,6 +72,26 @@ pub fn plan(file: &[u8], out: &mut [u8]) -> Planned
             outcome: Outcome::Refused(r),
             written: 0,
         },
-        Outcome::Done => print_plan(file, f, p.rows, out),
+        Outcome::Done => {
+            if charted {
+                charting::chart_rows(p.rows, out)
+            } else {
+                print_plan(file, f, p.rows, out)
+            }
+        }
     }
+}
+
+// The plan of a file: questions 1 to 11, then 14. Its listing is in the first bytes lent, the others stay as they were; on refusal all do.
+pub fn plan(file: &[u8], out: &mut [u8]) -> Planned
+    ensures { λ r. ⌜ PlanAnswered (now (file .entry)) (now (out .entry)) r (now (out .exit)) ⌝ }
+{
+    answer(file, out, false)
+}
+
+// The chart of one cycle of a file's plan: questions 1 to 11, then 19, then 14. Its 720 bytes are the first ones lent, the others stay as they were; on refusal all do.
+pub fn chart(file: &[u8], out: &mut [u8]) -> Planned
+    ensures { λ r. ⌜ ChartAnswered (now (file .entry)) (now (out .entry)) r (now (out .exit)) ⌝ }
+{
+    answer(file, out, true)
 }

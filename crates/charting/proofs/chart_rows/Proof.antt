@@ -9,7 +9,7 @@ use Rattle.refusal.specs.declared.Refusal.the-variants.{OutOfCycle}
 use Rattle.refusal.specs.Questions.Answer.{refused}
 use Rattle.load.specs.Weigh.{rowsOf}
 use Rattle.charting.proofs.Charted.{chart-19, chart-14, chart-fits, charted-over}
-use Rattle.planning.proofs.Answering.{refused-over}
+use Rattle.answers.proofs.Handing.{refused-over}
 use Rattle.charting.proofs.chart_rows.Statement.{statement}
 use Rattle.charting.proofs.chart_rows.Tie as tie
 
