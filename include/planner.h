@@ -33,7 +33,7 @@ enum { PLANNER_MOST_ROWS = 16, PLANNER_ROOM = 8192, PLANNER_CYCLE = 720 };
  * when they are first called (no -static, no -z now) needs some KB more in that call. */
 enum {
     PLANNER_STACK_PLAN = 125 * 1024,
-    PLANNER_STACK_CHART = 96 * 1024,
+    PLANNER_STACK_CHART = 125 * 1024,
     PLANNER_STACK_CANDIDATES = 63 * 1024,
     PLANNER_STACK_NAME = 60 * 1024,
     PLANNER_STACK_WEIGH = 4 * 1024,

@@ -58,7 +58,7 @@ pub const CYCLE: usize = 720;
 /// Bytes of stack that [`plan_into`] needs; [`plan`] has its listing on the heap.
 pub const STACK_PLAN: usize = 125 * 1024;
 /// Bytes of stack that [`chart_into`] needs; [`chart`] needs some KB more for the chart given back.
-pub const STACK_CHART: usize = 96 * 1024;
+pub const STACK_CHART: usize = 125 * 1024;
 /// Bytes of stack that [`candidates`] needs.
 pub const STACK_CANDIDATES: usize = 63 * 1024;
 /// Bytes of stack that [`name`] needs.
