@@ -45,7 +45,7 @@ THEOREMS = [
     ('cycle_chart', 'cycle-chart', 'CycleChart'),
 ]
 # How many rows of the table of examples each letter of paper 01 has, and each request of paper 02 with examples there.
-ROWS = {'A': 1, 'B': 5, 'C': 2, 'D': 1, 'E': 1, 'F': 1, 'G': 1, 'H': 1, 'I': 1, 'J': 1, 'K': 5, 'L': 3, 'M100': 4}
+ROWS = {'A': 1, 'B': 5, 'C': 2, 'D': 1, 'E': 1, 'F': 1, 'G': 1, 'H': 1, 'I': 1, 'J': 1, 'K': 5, 'L': 3, 'M100': 4, 'M109': 8}
 
 
 def listed(top):

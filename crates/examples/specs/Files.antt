@@ -10,6 +10,7 @@
 --   fileTop, listingTop     == a file whose second part has a ceiling below the top, and its listing
 --   fileSecond, listingSecond == a file whose first choice does not pass while another does, and its listing
 --   onePart P tasks == a file with one part of period P and the given task lines
+--   twoParts P R    == a file with two parts, of periods P and R, each with one task
 --   everyTicks n    == a file with one task whose T is written n
 --   refusalLine     == what the program prints of a refusal with this number and place
 -- Assumes nothing.
@@ -50,6 +51,9 @@ fileFAlone = fileFWith ""
 
 unfoldable pub onePart : String → String → List ℕ
 onePart P tasks = bytes "part\tp\t" ++ (bytes P ++ (bytes "\n" ++ (bytes tasks ++ bytes "end\n")))
+
+unfoldable pub twoParts : String → String → List ℕ
+twoParts P R = bytes "part\tp\t" ++ (bytes P ++ (bytes "\ntask\tt\t70\t1\t70\npart\tq\t" ++ (bytes R ++ bytes "\ntask\tt\t70\t1\t70\nend\n")))
 
 unfoldable pub listingI : List ℕ
 listingI = bytes "load\tp\t10\t10\nshare\tp\t10\t10\t0\t10\t10\n"

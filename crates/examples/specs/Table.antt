@@ -7,23 +7,28 @@
 use Prim.Native.Nat.{ℕ, _+_, _<_}
 use Prim.Native.String.{String}
 use mathlib.Core.Path.{_≡_}
-use mathlib.Core.Bool.{Bool, false}
+use mathlib.Core.Bool.{Bool, true, false, _&&_}
 use mathlib.Core.List.{List, [], _∷_}
+use lib.Dec.{eqb}
+use lib.ListN.{length, take}
 use Rattle.least.specs.declared.Frac.{Frac}
 use Rattle.least.specs.Lists.{nthOr, some, pad}
 use Rattle.least.specs.Fraction.{frac}
 use Rattle.refusal.specs.declared.Outcome.the-variants.{Done}
+use Rattle.refusal.specs.Limits.{cycle}
+use Rattle.refusal.specs.Number.{refusalNumber, refusalPlace}
 use Rattle.refusal.specs.Questions.{Answer}
 use Rattle.refusal.specs.Questions.Answer.{answered, refused}
+use Rattle.text.specs.Bytes.{same}
 use Rattle.load.specs.declared.Row.{Row}
 use Rattle.load.specs.Load.{row}
 use Rattle.load.specs.Weigh.{weighOf}
 use Rattle.candidates.specs.declared.Pair.{Pair}
 use Rattle.candidates.specs.Candidates.{pair, samePair, candidateOf}
 use Rattle.plan_file.specs.Numbers.{PlanPart, partsOf, partAt}
-use Rattle.answers.specs.Answers.{candidatesOf, supplyAnswer}
+use Rattle.answers.specs.Answers.{chartOf, candidatesOf, supplyAnswer}
 use Rattle.console.specs.Printed.{printedOf}
-use Rattle.examples.specs.Files.{refusalLine, fileA, listingA, cardAt, listingC, listingD, fileF, fileFOneNamed, fileFAlone, filePrivate, fileBlocked, listingPrivate, onePart, listingI, everyTicks, listingL}
+use Rattle.examples.specs.Files.{refusalLine, fileA, listingA, cardAt, listingC, listingD, fileF, fileFOneNamed, fileFAlone, filePrivate, fileBlocked, listingPrivate, onePart, twoParts, listingI, everyTicks, listingL}
 
 pub data Claim : Type 0 where
   -- the program prints this of the file
@@ -44,6 +49,10 @@ pub data Claim : Type 0 where
   weighs : (rows : List Row) (bounds : List Frac) (load : Frac) (row : ℕ) → Claim
   -- the supply of (P,Q) in t ticks
   supplies : (P Q t ticks : ℕ) → Claim
+  -- the chart of the file, in bytes for one cycle, begins with these ticks
+  charts : (file ticks : List ℕ) → Claim
+  -- the chart of the file in so many lent bytes is refused with this number and this place
+  refusesChart : (file : List ℕ) (room number place : ℕ) → Claim
 
 -- the parts of a readable file, none of any other
 unfoldable pub partsIn : List ℕ → List PlanPart
@@ -52,6 +61,14 @@ partsIn file = elim (partsOf file) [ answered parts ↦ parts | refused r ↦ []
 unfoldable pub isOn : Pair → Answer (List Pair) → Bool
 isOn c (answered kept) = some (samePair c) kept
 isOn c (refused r) = false
+
+unfoldable pub beginsWith : List ℕ → Answer (List ℕ) → Bool
+beginsWith ticks (answered chart) = same ticks (take (length ticks) chart)
+beginsWith ticks (refused r) = false
+
+unfoldable pub isRefusedWith : ℕ → ℕ → Answer (List ℕ) → Bool
+isRefusedWith number place (answered chart) = false
+isRefusedWith number place (refused r) = eqb (refusalNumber r) number && eqb (refusalPlace r) place
 
 abbrev pub Holds : Claim → Type 0
 Holds (prints file listing) = printedOf file ≡ listing
@@ -64,6 +81,8 @@ Holds (hasSmallerSumAndX c other) = (c .budget + c .holding < other .budget + ot
 Holds (keeps file k kept) = candidatesOf file k ≡ answered kept
 Holds (weighs rows bounds load row) = weighOf rows ≡ record { outcome = Done; bounds = pad 16 (frac 0 0) bounds; load = load; row = row }
 Holds (supplies P Q t ticks) = supplyAnswer P Q t ≡ answered ticks
+Holds (charts file ticks) = beginsWith ticks (chartOf file cycle) ≡ true
+Holds (refusesChart file room number place) = isRefusedWith number place (chartOf file room) ≡ true
 
 pub record Example : Type 0 where
   pub letter : String
@@ -101,6 +120,14 @@ table =
     ∷ at "M100" (keeps fileBlocked 1 (pair 3 0 ∷ []))
     ∷ at "M100" (keeps fileFOneNamed 1 (pair 106 8 ∷ []))
     ∷ at "M100" (keeps fileFAlone 1 (pair 102 0 ∷ []))
+    ∷ at "M109" (charts fileA (2 ∷ 2 ∷ 2 ∷ 1 ∷ 1 ∷ 1 ∷ 0 ∷ 0 ∷ 0 ∷ 0 ∷ 2 ∷ 2 ∷ 2 ∷ 0 ∷ 0 ∷ 0 ∷ 0 ∷ 0 ∷ 0 ∷ 0 ∷ []))
+    ∷ at "M109" (charts (onePart "10" "task\tt\t10\t10\t10\n") (1 ∷ 1 ∷ 1 ∷ 1 ∷ 1 ∷ 1 ∷ 1 ∷ 1 ∷ 1 ∷ 1 ∷ []))
+    ∷ at "M109" (refusesChart (onePart "7" "task\tt\t70\t1\t70\n") 0 19 1)
+    ∷ at "M109" (refusesChart (twoParts "10" "7") 0 19 2)
+    ∷ at "M109" (refusesChart (twoParts "7" "11") 0 19 1)
+    ∷ at "M109" (refusesChart (onePart "10" "task\tt\t70\t1\t70\n") 719 14 0)
+    ∷ at "M109" (refusesChart (onePart "7" "task\tt\t7\t4\t7\ntask\tu\t7\t4\t7\n") 0 10 1)
+    ∷ at "M109" (refusesChart (cardAt 7) 0 11 0)
     ∷ []
 
 infixr 60 _and_
