@@ -15,7 +15,7 @@ from statements import check_quotes, check_statements, check_uses, source
 
 # What a caller may ask with any input: what planner passes on, what planner_c exports, and what the program prints.
 OPERATIONS = {
-    'planning::plan', 'charting::chart', 'inquiries::candidates', 'inquiries::name', 'inquiries::name_outcome', 'inquiries::name_stretch',
+    'planning::plan', 'planning::chart', 'inquiries::candidates', 'inquiries::name', 'inquiries::name_outcome', 'inquiries::name_stretch',
     'load::weigh', 'hand_set::weigh_slice', 'hand_set::supply', 'refusal::number', 'refusal::place', 'console::print',
     'planner_c::planner_plan', 'planner_c::planner_chart', 'planner_c::planner_candidates', 'planner_c::planner_name',
     'planner_c::planner_weigh', 'planner_c::planner_weigh_slice', 'planner_c::planner_supply',

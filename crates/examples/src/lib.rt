@@ -1,1 +1,1 @@
-// Examples A to L of paper 01, as theorems.
+// Examples A to L of paper 01, and those of requests, as theorems.
