@@ -24,7 +24,7 @@
 #define PLANNER_VERSION "2.1.0"
 
 /* The greatest number of a file, and the greatest period, budget, holding time and time set by hand;
- * the most bytes of a file, pairs of a kept list and rows of a weighing; bytes enough for any
+ * the most bytes of a file, pairs of a kept list, and rows of a weighing or parts of a file; bytes enough for any
  * listing; the ticks of a cycle, and so the bytes of a chart. */
 enum { PLANNER_MOST_NUMBER = 1000000, PLANNER_MOST_BYTES = 32768, PLANNER_MOST_PAIRS = 16 };
 enum { PLANNER_MOST_ROWS = 16, PLANNER_ROOM = 8192, PLANNER_CYCLE = 720 };
@@ -59,7 +59,8 @@ planner_plan_answer planner_plan(const uint8_t *file, size_t length, uint8_t *ou
  * that has tick t, a value from 1 to 16 and no digit, or 0: then the tick is unassigned, and free for
  * overruns and switching. `written` is PLANNER_CYCLE, and the bytes behind these stay as they were.
  * Every part has exactly its budget in each of its periods, in this cycle and in each repetition.
- * Refusals as of a plan: 1 to 11, then 19 at the first part with another period, then 14. */
+ * Refusals as of a plan: 1 to 11; then 19 at the first part with a period that does not divide
+ * PLANNER_CYCLE; then 14. */
 planner_plan_answer planner_chart(const uint8_t *file, size_t length, uint8_t *out, size_t room);
 
 /* The kept list of a part, counted from 1: budgets Q with holding times X, in falling X; a part has

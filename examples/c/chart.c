@@ -29,7 +29,7 @@ static char listing[PLANNER_ROOM + 1];
 static struct part parts[PLANNER_MOST_ROWS];
 static unsigned count;
 
-/* Colours that people with any kind of sight tell apart; a row has its place too, and its name. */
+/* Eight colours that most people tell apart, also those who see some of them alike; a row has its place too, and its name. */
 static const char *const colours[] = {"#0072b2", "#e69f00", "#009e73", "#cc79a7", "#56b4e9", "#d55e00", "#f0e442", "#999999"};
 static const char *const letters[] = {"#fff", "#000", "#fff", "#000", "#000", "#fff", "#000", "#000"};
 enum { COLOURS = sizeof colours / sizeof *colours };
@@ -102,7 +102,17 @@ static void draw_axis(unsigned first, unsigned top) {
     }
 }
 
-/* A row of a strip: its bars, and how many ticks each has where that can be read. */
+/* How many ticks in a row its part has around a tick, also beyond the ends of a strip. */
+static unsigned run_around(unsigned tick) {
+    unsigned from = tick, to = tick;
+    while (from > 0 && ticks[from - 1] == ticks[tick])
+        from--;
+    while (to < PLANNER_CYCLE && ticks[to] == ticks[tick])
+        to++;
+    return to - from;
+}
+
+/* A row of a strip: its bars, and how many ticks in a row each is part of, where that can be read. */
 static void draw_bars(unsigned part, unsigned first, unsigned y) {
     unsigned colour = (part - 1) % COLOURS;
     printf("<g id=\"part%u-%u\" fill=\"%s\">\n", part, first, part == 0 ? "url(#free)" : colours[colour]);
@@ -114,7 +124,7 @@ static void draw_bars(unsigned part, unsigned first, unsigned y) {
         unsigned x = LEFT + (from - first) * TICK, width = (to - from) * TICK;
         printf("<rect x=\"%u\" y=\"%u\" width=\"%u\" height=\"%d\" class=\"bar\"/>\n", x, y + (ROW - BAR) / 2, width, BAR);
         if (part != 0 && to - from > 2)
-            printf("<text x=\"%u\" y=\"%u\" class=\"run\" fill=\"%s\">%u</text>\n", x + width / 2, y + ROW / 2 + 4, letters[colour], to - from);
+            printf("<text x=\"%u\" y=\"%u\" class=\"run\" fill=\"%s\">%u</text>\n", x + width / 2, y + ROW / 2 + 4, letters[colour], run_around(from));
     }
     printf("</g>\n");
 }

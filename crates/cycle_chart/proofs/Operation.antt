@@ -5,6 +5,7 @@ use native.Mathlib.Nat.{mod-lt}
 use native.Mathlib.Omega.{arith}
 use mathlib.Core.Path.{_≡_, refl, sym, ap, _∙_, subst}
 use mathlib.Core.Bool.{Bool, true, false}
+use mathlib.Core.Logic.{_↔_}
 use mathlib.Core.List.{List, [], _∷_, _++_}
 use lib.Dec.{leb, eqb}
 use borrow.Author.Tests.{leb-true, le-leb}
@@ -15,12 +16,12 @@ use Rattle.least.specs.Each.{Each}
 use Rattle.least.proofs.Lists.{nth-get, nth-of-map}
 use Rattle.least.proofs.Each.{length-equal, each-get}
 use Rattle.refusal.specs.declared.Refusal.{Refusal}
-use Rattle.refusal.specs.declared.Refusal.the-variants.{NoRoom}
-use Rattle.refusal.specs.declared.Outcome.the-variants.{Done}
+use Rattle.refusal.specs.declared.Refusal.the-variants.{NoRoom, OutOfCycle}
+use Rattle.refusal.specs.declared.Outcome.the-variants.{Done, Refused}
 use Rattle.refusal.specs.Limits.{cycle}
 use Rattle.refusal.specs.Questions.{Answer, ask, firstNo, whenAnswered, whenDone}
 use Rattle.refusal.specs.Questions.Answer.{answered, refused}
-use Rattle.refusal.proofs.Answers.{answered-not-refused, answer-same-value, done-not-refused}
+use Rattle.refusal.proofs.Answers.{answered-not-refused, answer-same-value, done-not-refused, outcome-refused-iff}
 use Rattle.refusal.proofs.InTurn.{when-answered}
 use Rattle.task_set.specs.Partition.{Partition}
 use Rattle.load.specs.declared.Row.{Row}
@@ -36,8 +37,10 @@ use Rattle.answers.specs.Answers.{inRoom, chartedIn, chartOf, planned, bufferAf
 use Rattle.answers.specs.Choice.{FromKept}
 use Rattle.answers.proofs.PlanRows.{rows-answered, leastRows-kept, leastRows-passes}
 use Rattle.planner.specs.SystemTest.{rowAt}
-use Rattle.planner.specs.Refusals.{InCycle}
+use Rattle.planner.specs.Refusals.{InCycle, OutOfCycleAt}
 use Rattle.planner.proofs.ChartRefusals.{all-in-cycle-iff}
+use Rattle.planner.proofs.Refusals.{every-refusal}
+use Rattle.planner.proofs.Exactly.{handed-outcome}
 use Rattle.cycle_chart.specs.CycleChart.{Charted}
 
 one-asked : {A : Type 0} (x : Refusal) (t : Bool) (a b : A) → whenDone (firstNo (ask x t ∷ [])) (answered a) ≡ answered b → (t ≡ true) × (a ≡ b)
@@ -193,3 +196,16 @@ module _ (s before : List ℕ) (r : Planned) (after : List ℕ) (a : ChartAnswer
             as-many = lent-many rows before after lies (m .room-for);
             others = lent-others rows before after lies;
           }
+
+  -- the refusals are those of demand 2
+  refused-iff : (x : Refusal) → (r .outcome ≡ Refused x) ↔ (chartOf s (length before) ≡ refused x)
+  refused-iff x = let o = handed-outcome a in let iff = outcome-refused-iff (chartOf s (length before)) x in ((λ e. iff .0 (sym o ∙ e)), λ e. o ∙ iff .1 e)
+
+  pub unplanned : (x : Refusal) → planFile s ≡ refused x → r .outcome ≡ Refused x
+  unplanned x e = refused-iff x .1 (every-refusal .chart-11 s (length before) x e .1)
+
+  pub out-of-cycle : (k : ℕ) → (r .outcome ≡ Refused (OutOfCycle k)) ↔ ((plan : Plan) × (planFile s ≡ answered plan) × OutOfCycleAt plan k)
+  out-of-cycle k = let iff = every-refusal .chart-19 s (length before) k in ((λ e. iff .0 (refused-iff _ .0 e)), λ h. refused-iff _ .1 (iff .1 h))
+
+  pub no-room : (r .outcome ≡ Refused NoRoom) ↔ ((plan : Plan) × (planFile s ≡ answered plan) × InCycle (plan .rows) × (length before < cycle))
+  no-room = let iff = every-refusal .chart-14 s (length before) in ((λ e. iff .0 (refused-iff _ .0 e)), λ h. refused-iff _ .1 (iff .1 h))

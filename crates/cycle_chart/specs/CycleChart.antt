@@ -15,9 +15,11 @@ use mathlib.Core.List.{List, map}
 use lib.Dec.{eqb}
 use lib.ListN.{length, drop, getD}
 use Rattle.least.specs.Lists.{sum, nthOr}
-use Rattle.refusal.specs.declared.Outcome.the-variants.{Done}
+use Rattle.refusal.specs.declared.Refusal.{Refusal}
+use Rattle.refusal.specs.declared.Refusal.the-variants.{NoRoom, OutOfCycle}
+use Rattle.refusal.specs.declared.Outcome.the-variants.{Done, Refused}
 use Rattle.refusal.specs.Limits.{cycle, partLimit}
-use Rattle.refusal.specs.Questions.Answer.{answered}
+use Rattle.refusal.specs.Questions.Answer.{answered, refused}
 use Rattle.delivery.specs.Assignment.{Assignment, given, Delivers}
 use Rattle.load.specs.declared.Row.{Row}
 use Rattle.load.specs.Load.{row, passesSystem}
@@ -27,7 +29,7 @@ use Rattle.answers.specs.declared.Planned.{Planned}
 use Rattle.answers.specs.Plan.{Plan, planFile}
 use Rattle.answers.specs.Answers.{ChartAnswered}
 use Rattle.planner.specs.SystemTest.{rowAt}
-use Rattle.planner.specs.Refusals.{Divides, InCycle}
+use Rattle.planner.specs.Refusals.{Divides, InCycle, OutOfCycleAt}
 
 pub record HighestDue (n : ℕ) (due : ℕ → ℕ) (k : ℕ) : Type 0 where
   -- a part, or 0
@@ -38,7 +40,7 @@ pub record HighestDue (n : ℕ) (due : ℕ → ℕ) (k : ℕ) : Type 0 where
   pub none-above : (j : ℕ) → k < j → j ≤ n → due j ≡ 0
 
 pub record LaidOut (rows : List Row) (due : ℕ → ℕ → ℕ) (holder : ℕ → ℕ) : Type 0 where
-  -- all parts start together
+  -- all parts start together (`anew` says it too: every period divides 0)
   pub start : (k : ℕ) → 1 ≤ k → k ≤ length rows → due 0 k ≡ rowAt rows k .budget
   -- each is due its Q ticks from the start of each of its periods
   pub anew : (y k : ℕ) → 1 ≤ k → k ≤ length rows → Divides (rowAt rows k .period) y → due y k ≡ rowAt rows k .budget
@@ -106,5 +108,13 @@ pub record CycleChart : Type 0 where
   -- the operation, for every file and all lent bytes: a file is charted exactly if it is planned, its periods all divide 720 and 720 bytes are lent
   pub charted-iff : (s before : List ℕ) (r : Planned) (after : List ℕ) → ChartAnswered s before r after
       → (r .outcome ≡ Done) ↔ ((plan : Plan) × (planFile s ≡ answered plan) × InCycle (plan .rows) × (cycle ≤ length before))
-  -- and then this stands in the lent bytes
+  -- questions 1 to 11 are the plan's
+  pub unplanned : (s before : List ℕ) (r : Planned) (after : List ℕ) → ChartAnswered s before r after → (x : Refusal) → planFile s ≡ refused x → r .outcome ≡ Refused x
+  -- the first part with a period that does not divide 720 gives 19 at that part, after 11
+  pub out-of-cycle : (s before : List ℕ) (r : Planned) (after : List ℕ) → ChartAnswered s before r after → (k : ℕ)
+      → (r .outcome ≡ Refused (OutOfCycle k)) ↔ ((plan : Plan) × (planFile s ≡ answered plan) × OutOfCycleAt plan k)
+  -- then fewer than 720 lent bytes give 14
+  pub no-room : (s before : List ℕ) (r : Planned) (after : List ℕ) → ChartAnswered s before r after
+      → (r .outcome ≡ Refused NoRoom) ↔ ((plan : Plan) × (planFile s ≡ answered plan) × InCycle (plan .rows) × (length before < cycle))
+  -- and of a file that is charted this stands in the lent bytes
   pub charted : (s before : List ℕ) (r : Planned) (after : List ℕ) → ChartAnswered s before r after → r .outcome ≡ Done → Charted s before r after

@@ -61,7 +61,7 @@ none-refused r (ten {j} n) e = inl (j, e)
 none-refused r (eleven each never) e = inr e
 
 -- what is handed over has the outcome of the answer
-handed-outcome : {a : Answer (List ℕ)} {before after : List ℕ} {r : Planned} → HandedOver a before r after → r .outcome ≡ outcomeOf a
+pub handed-outcome : {a : Answer (List ℕ)} {before after : List ℕ} {r : Planned} → HandedOver a before r after → r .outcome ≡ outcomeOf a
 unfolding planned outcomeOf
 handed-outcome {a = answered text} h = ap (λ (x : Planned). x .outcome) (h .result)
 handed-outcome {a = refused x} h = ap (λ (x : Planned). x .outcome) (h .result)

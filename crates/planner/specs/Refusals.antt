@@ -106,7 +106,7 @@ pub record EveryRefusal : Type 0 where
   pub plan-14 : (s : List ℕ) (room : ℕ) → (planOf s room ≡ refused NoRoom) ↔ ((text : List ℕ) × (planOf s (length text) ≡ answered text) × (room < length text))
   -- 1 to 11 of a chart are those of the plan
   pub chart-11 : (s : List ℕ) (room : ℕ) (r : Refusal) → planFile s ≡ refused r → (planOf s room ≡ refused r) × (chartOf s room ≡ refused r)
-  -- 19: the file is planned, and not every period divides 720. The first part with such a period
+  -- 19: the file is planned, and not every period divides 720. The first part with such a period, which is that of its row (`RowsAre`)
   pub chart-19 : (s : List ℕ) (room k : ℕ) → (chartOf s room ≡ refused (OutOfCycle k)) ↔ ((plan : Plan) × (planFile s ≡ answered plan) × OutOfCycleAt plan k)
   -- 14 of a chart: the file is planned, every period divides 720, and fewer than 720 bytes are lent
   pub chart-14 : (s : List ℕ) (room : ℕ) → (chartOf s room ≡ refused NoRoom) ↔ ((plan : Plan) × (planFile s ≡ answered plan) × InCycle (plan .rows) × (room < cycle))

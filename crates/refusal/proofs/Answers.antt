@@ -2,10 +2,11 @@
 -- Assumes nothing.
 use Prim.Native.Nat.{ℕ}
 use native.Mathlib.Omega.{arith}
-use mathlib.Core.Path.{_≡_}
+use mathlib.Core.Path.{_≡_, ap}
+use mathlib.Core.Logic.{_↔_}
 use Rattle.refusal.specs.declared.Refusal.{Refusal}
 use Rattle.refusal.specs.declared.Outcome.the-variants.{Done, Refused}
-use Rattle.refusal.specs.Questions.{Answer}
+use Rattle.refusal.specs.Questions.{Answer, outcomeOf}
 use Rattle.refusal.specs.Questions.Answer.{answered, refused}
 
 pub done-not-refused : {r : Refusal} → Done ≡ Refused r → ⊥
@@ -20,6 +21,11 @@ module _ {A : Type 0} where
 
   pub answer-same-value : {a b : A} → answered a ≡ answered b → a ≡ b
   answer-same-value e = cc
+
+  pub outcome-refused-iff : (a : Answer A) (r : Refusal) → (outcomeOf a ≡ Refused r) ↔ (a ≡ refused r)
+  unfolding outcomeOf
+  outcome-refused-iff (answered a) r = ((λ e. absurd (done-not-refused e)), λ e. absurd (answered-not-refused e))
+  outcome-refused-iff (refused q) r = ((λ e. ap refused (outcome-same-refusal e)), λ e. ap outcomeOf e)
 
   pub answer-same-refusal : {r s : Refusal} → _≡_ {A = Answer A} (refused r) (refused s) → r ≡ s
   answer-same-refusal e = cc

@@ -165,7 +165,7 @@ pub fn plan_into<'a>(file: &[u8], out: &'a mut [u8]) -> Result<&'a mut [u8], Ref
 /// at tick 0, each is due its budget from the start of each of its periods, and a tick goes to the
 /// highest part still due. So every part has exactly its budget in each of its periods, in this cycle
 /// and in each repetition; ticks for overruns and switching stay unassigned. Refusals 1 to 11, then 19
-/// at the first part with another period.
+/// at the first part with a period that does not divide it.
 ///
 /// ```
 /// let file = b"part\tlow\t6\ntask\tt\t60\t10\t60\npart\thigh\t4\ntask\tt\t40\t8\t40\nend\n";
