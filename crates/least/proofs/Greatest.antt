@@ -13,6 +13,7 @@ use Rattle.least.specs.Lists.{greatest, count_from}
 module _ {A : Type 0} (f : A → ℕ) where
   pub greatest_each : (xs : List A) (x : A) → Memᴰ x xs → f x ≤ greatest (map f xs)
   unfolding greatest
+  greatest_each [] x x3 = elim x3 [ ]
   greatest_each (y ∷ ys) x (Memᴰ.head e) = omega (arith, ap f e)
   greatest_each (y ∷ ys) x (Memᴰ.tail m) = omega (arith, greatest_each ys x m)
 

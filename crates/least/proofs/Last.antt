@@ -65,6 +65,7 @@ module _ {A : Type 0} where
   last_member d (x ∷ y ∷ ys) h = Memᴰ.tail (last_member x (y ∷ ys) (omega arith))
 
   pub drop_last_member : {x : A} (xs : List A) → Memᴰ x (drop_last xs) → Memᴰ x xs
+  drop_last_member (y ∷ []) m = elim m [ ]
   drop_last_member [] m = m
   drop_last_member (y ∷ z ∷ zs) (Memᴰ.head q) = Memᴰ.head q
   drop_last_member (y ∷ z ∷ zs) (Memᴰ.tail m) = Memᴰ.tail (drop_last_member (z ∷ zs) m)

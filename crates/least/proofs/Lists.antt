@@ -38,6 +38,7 @@ or_not_false false false e = absurd (false≢true (sym e))
 -- the n numbers from a on
 pub count_from_lem : (n a l : ℕ) → Memᴰ l (count_from a n) → (a ≤ l) × (l < a + n)
 unfolding count_from
+count_from_lem zero a l x' = elim x' [ ]
 count_from_lem (suc n) a l (Memᴰ.head e) = (omega arith, omega arith)
 count_from_lem (suc n) a l (Memᴰ.tail m) = let h = count_from_lem n (suc a) l m in (omega arith, omega arith)
 
@@ -92,6 +93,7 @@ module _ {A : Type 0} where
       go false t = absurd (false≢true (sym (every_fail test x xs t) ∙ e))
 
   pub every_member : (test : A → Bool) {x : A} (xs : List A) → every test xs ≡ true → Memᴰ x xs → test x ≡ true
+  every_member test [] e x3 = elim x3 [ ]
   every_member test (y ∷ ys) e (Memᴰ.head q) = ap test q ∙ (every_cons test y ys e).0
   every_member test (y ∷ ys) e (Memᴰ.tail m) = every_member test ys (every_cons test y ys e).1 m
 
@@ -198,6 +200,7 @@ module _ {A : Type 0} where
       go ih false t = later (ih (rw (those_fail test y ys t) at m))
 
   pub those_passing : (test : A → Bool) {x : A} (xs : List A) → Memᴰ x xs → test x ≡ true → Memᴰ x (those test xs)
+  those_passing test {x = x} [] x3 p = elim x3 [ ]
   those_passing test (y ∷ ys) (Memᴰ.head q) p = rw (those_pass test y ys (ap test (sym q) ∙ p)) (Memᴰ.head q)
   those_passing test {x} (y ∷ ys) (Memᴰ.tail m) p = go (those_passing test ys m p) (test y) refl
     where
@@ -220,6 +223,7 @@ module _ {A : Type 0} where
 
   pub joined_of : {x : A} {xs : List A} (xss : List (List A)) → Memᴰ xs xss → Memᴰ x xs → Memᴰ x (joined xss)
   unfolding joined
+  joined_of {x = x} {xs = xs} [] x3 m = elim x3 [ ]
   joined_of {x} (ys ∷ yss) (Memᴰ.head q) m = Memᴰ.append_left (joined yss) (subst (Memᴰ x) q m)
   joined_of (ys ∷ yss) (Memᴰ.tail k) m = Memᴰ.append_right ys (joined_of yss k m)
 
@@ -330,12 +334,14 @@ every_range test a e = ((λ t l h k. every_member test (range a e) t ((range_iff
 -- the smallest number of a list is no greater than any of them, and is one of them
 pub smallest_le : {x : ℕ} (xs : List ℕ) → Memᴰ x xs → smallest xs ≤ x
 unfolding smallest
+smallest_le [] m = elim m [ ]
 smallest_le (y ∷ []) m = omega (arith, Memᴰ.eq_of_singleton m)
 smallest_le (y ∷ z ∷ zs) (Memᴰ.head q) = omega arith
 smallest_le (y ∷ z ∷ zs) (Memᴰ.tail m) = omega (arith, smallest_le (z ∷ zs) m)
 
 pub smallest_member : {x : ℕ} (xs : List ℕ) → Memᴰ x xs → Memᴰ (smallest xs) xs
 unfolding smallest
+smallest_member [] m = elim m [ ]
 smallest_member (y ∷ []) m = Memᴰ.head refl
 smallest_member (y ∷ z ∷ zs) m = go (smallest_member (z ∷ zs) (Memᴰ.head refl)) (dec_le y (smallest (z ∷ zs)))
   where

@@ -10,6 +10,7 @@ use lib.ListN.{length, take, drop, get_or, take-append-drop}
 
 module _ {A : Type 0} where
   pub place_of : (d : A) {x : A} (xs : List A) → Memᴰ x xs → (k : ℕ) × (k < length xs) × (x ≡ get_or xs k d)
+  place_of d [] x'' = elim x'' [ ]
   place_of d (y ∷ ys) (Memᴰ.head q) = (0, omega arith, q)
   place_of d (y ∷ ys) (Memᴰ.tail m) = let h = place_of d ys m in (suc h.0, omega (arith, h.1), h.2)
 
@@ -35,6 +36,7 @@ module _ {A : Type 0} where
   drop_member k {x} xs m = subst (Memᴰ x) (take-append-drop k xs) (Memᴰ.append_right (take k xs) m)
 
   turned : {x : A} (xs : List A) → Memᴰ x xs → Memᴰ x (reverse xs)
+  turned {x = x} [] x'' = elim x'' [ ]
   turned {x} (y ∷ ys) (Memᴰ.head q) = rw (reverse-cons y ys) (Memᴰ.append_right (reverse ys) (Memᴰ.head q))
   turned {x} (y ∷ ys) (Memᴰ.tail m) = rw (reverse-cons y ys) (Memᴰ.append_left (y ∷ []) (turned ys m))
 

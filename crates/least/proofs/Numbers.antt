@@ -31,6 +31,7 @@ module _ {A : Type 0} (test : A → Bool) where
   -- where some element passes, one is at least the number of the first
   pub numbers_some : (i : ℕ) {x : A} (xs : List A) → Memᴰ x xs → test x ≡ true → i ≤ greatest (numbers_from i test xs)
   unfolding greatest
+  numbers_some i [] x4 p = elim x4 [ ]
   numbers_some i (y ∷ ys) (Memᴰ.head q) p = rw (numbers_pass i y ys (ap test (sym q) ∙ p)) (omega arith)
   numbers_some i (y ∷ ys) (Memᴰ.tail m) p = go (numbers_some (suc i) ys m p) (test y) refl
     where
@@ -49,6 +50,7 @@ module _ {A : Type 0} (test : A → Bool) where
 
   -- where no number is above i, those that pass stand among the first i
   front_from : (a i : ℕ) {x : A} (xs : List A) → Memᴰ x xs → test x ≡ true → greatest (numbers_from (suc a) test xs) ≤ a + i → Memᴰ x (take i xs)
+  front_from a (suc i) [] m p h = elim m [ ]
   front_from a zero xs m p h = absurd (omega (arith, numbers_some (suc a) xs m p))
   front_from a (suc i) (y ∷ ys) (Memᴰ.head q) p h = Memᴰ.head q
   front_from a (suc i) (y ∷ ys) (Memᴰ.tail m) p h = Memᴰ.tail (front_from (suc a) i ys m p (omega (arith, numbers_behind (suc a) y ys)))

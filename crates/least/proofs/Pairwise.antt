@@ -42,11 +42,13 @@ module _ {A : Type 0} {R : A → A → Type 0} where
   pairwise_front (x ∷ xs) ys (more h p) = more (λ y m. h y (Memᴰ.append_left ys m)) (pairwise_front xs ys p)
 
   pub pairwise_across : (xs : List A) {ys : List A} {x y : A} → Pairwise R (xs ++ ys) → Memᴰ x xs → Memᴰ y ys → R x y
+  pairwise_across [] {ys = ys} {x = x} {y = y} _ x6 k = elim x6 [ ]
   pairwise_across (z ∷ xs) {ys} {x} {y} (more h p) (Memᴰ.head e) k = subst (λ (v : A). R v y) (sym e) (h y (Memᴰ.append_right xs k))
   pairwise_across (z ∷ xs) (more h p) (Memᴰ.tail m) k = pairwise_across xs p m k
 
   -- of two members, one stands behind the other or they are the same
   pub pairwise_members : {x y : A} {xs : List A} → Pairwise R xs → Memᴰ x xs → Memᴰ y xs → (x ≡ y) ⊎ (R x y ⊎ R y x)
+  pairwise_members {x = x} {y = y} none x6 _ = elim x6 [ ]
   pairwise_members (more h p) (Memᴰ.head e) (Memᴰ.head f) = inl (e ∙ sym f)
   pairwise_members {x} {y} (more h p) (Memᴰ.head e) (Memᴰ.tail k) = inr (inl (subst (λ (v : A). R v y) (sym e) (h y k)))
   pairwise_members {x} {y} (more h p) (Memᴰ.tail m) (Memᴰ.head f) = inr (inr (subst (λ (v : A). R v x) (sym f) (h x m)))

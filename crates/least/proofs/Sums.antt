@@ -17,6 +17,7 @@ module _ {A : Type 0} (f g : A → ℕ) where
   -- and greater where one value is
   pub sum_rises : (xs : List A) → ((x : A) → Memᴰ x xs → f x ≤ g x) → (x : A) → Memᴰ x xs → f x < g x → sum (map f xs) < sum (map g xs)
   unfolding sum
+  sum_rises [] h x x5 l = elim x5 [ ]
   sum_rises (y ∷ ys) h x (Memᴰ.head e) l = omega (arith, ap f e, ap g e, sum_mono ys (λ z m. h z (Memᴰ.tail m)))
   sum_rises (y ∷ ys) h x (Memᴰ.tail k) l = omega (arith, h y (Memᴰ.head refl), sum_rises ys (λ z m. h z (Memᴰ.tail m)) x k l)
 
