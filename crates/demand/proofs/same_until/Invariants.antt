@@ -1,0 +1,11 @@
+-- `demand::same_until` meets its contract. The invariant: the end is at most the next time of each task before the place k.
+-- Assumes nothing.
+use Prim.Native.Nat.{◌-◌}
+use Rattle.demand.proofs.Stretch.{Within}
+use Rattle.demand.proofs.same_until.Given as goal
+
+abbrev pub invariant-loop-k : goal.invariant-loop-k
+invariant-loop-k l = Within l.periods l.s l.t l.most l.k l.end
+
+abbrev pub decreases-loop-k : goal.decreases-loop-k
+decreases-loop-k l = l.n - l.k
