@@ -1,4 +1,6 @@
 // What the operations hand over; weighing hands over load's `Weighed`.
+#![tactic(auto)]
+
 use candidates::Kept;
 use refusal::Outcome;
 

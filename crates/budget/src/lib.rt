@@ -1,4 +1,6 @@
 // The local test of one task, and its least budget. The tasks are lent by columns (crate task_set).
+#![tactic(auto)]
+
 ghost use Rattle.std.specs.Prelude.{◌≡◌, suc, ◌≤◌, ◌<◌};
 ghost use Rattle.refusal.specs.Limits.{number_limit};
 ghost use Rattle.task_set.specs.Tasks.{higher};

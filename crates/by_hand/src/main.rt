@@ -1,4 +1,6 @@
 // Supplies and weighings of the documents' figures and of the readings, and numbers at and past the limits. 'stdout' has what they should be.
+#![tactic(auto)]
+
 use libc::STDOUT_FILENO;
 use planner::{Frac, Row, Rows, Weighed};
 

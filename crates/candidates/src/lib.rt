@@ -1,4 +1,6 @@
 // The candidates of a part and its kept list.
+#![tactic(auto)]
+
 ghost use Rattle.std.specs.Prelude.{◌≡◌, false, ℕ, suc, ◌≤◌, ◌<◌, get_or, drop};
 ghost use Rattle.refusal.specs.Limits.{number_limit, task_limit, lock_limit, kept_limit};
 ghost use Rattle.demand.specs.Code.Demand.{cost_limit};

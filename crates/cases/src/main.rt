@@ -1,4 +1,6 @@
 // What the program prints of each file that the arguments name, behind a line with its name: 'stdout' has what that should be.
+#![tactic(auto)]
+
 use libc::STDOUT_FILENO;
 use refusal::FILE_LIMIT;
 use stretch::Span;

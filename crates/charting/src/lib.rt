@@ -1,4 +1,6 @@
 // The chart of one cycle of the rows of a plan, in the lent bytes.
+#![tactic(auto)]
+
 ghost use Rattle.std.specs.Prelude.{length};
 ghost use Rattle.load.specs.Weigh.{rows_of};
 ghost use Rattle.load.specs.Code.Rows.{FineRows};

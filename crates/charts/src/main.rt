@@ -1,6 +1,8 @@
 // The chart of each file that the arguments name, behind a line with its name, in room for a byte more than it has; then charts in other rooms. Of each: number,
 // place and bytes counted, and behind them the lent bytes, 60 a line: `.` for a tick without a part, 1 to 9 and a to g for the parts, `#` for a byte that is as
 // it was. 'stdout' has what that should be.
+#![tactic(auto)]
+
 use libc::STDOUT_FILENO;
 use refusal::{CYCLE, FILE_LIMIT};
 use stretch::Span;

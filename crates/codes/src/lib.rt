@@ -1,4 +1,6 @@
 // Names as numbers.
+#![tactic(auto)]
+
 ghost use Rattle.std.specs.Prelude.{◌≡◌, ◌≤◌, length, take};
 ghost use Rattle.codes.specs.Code.Codes.{byte_if, code_if, place_of};
 

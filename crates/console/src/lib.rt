@@ -1,4 +1,6 @@
 // What the program prints of a file, byte for byte: its listing, or the line of its refusal.
+#![tactic(auto)]
+
 ghost use Rattle.std.specs.Prelude.{◌≡◌};
 ghost use Rattle.console.specs.Printed.{printed_of, printed};
 

@@ -1,1 +1,3 @@
 // Ticks that are given to a part: no function. Definitions are in specs/, laws in proofs/.
+#![tactic(auto)]
+

@@ -1,4 +1,6 @@
 // What tasks, or rows, that come again and again ask for. They are lent by columns: the periods in one array, the costs in another.
+#![tactic(auto)]
+
 ghost use Rattle.std.specs.Prelude.{◌≡◌, ◌*◌, ◌≤◌};
 ghost use Rattle.least.specs.Round.{ceil_div};
 ghost use Rattle.refusal.specs.Limits.{number_limit};

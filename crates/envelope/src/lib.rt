@@ -1,6 +1,8 @@
 // Straight lines under a demand, and a search that jumps by them. From a time t on, a task that comes again asks for no less than its share of the time, and none
 // asks for less than it has asked for by t: the greater of both is the lower convex envelope of what the task asks for. Where the sum of the envelopes is met, a
 // search may go on.
+#![tactic(auto)]
+
 ghost use Rattle.std.specs.Prelude.{◌≡◌, ◌+◌, ◌-◌, ◌*◌, ◌/◌, min, ◌≤◌, ◌<◌};
 ghost use Rattle.refusal.specs.Limits.{number_limit};
 ghost use Rattle.demand.specs.Code.Demand.{demand_from, cost_limit, demand_limit, FineDemand};

@@ -1,4 +1,6 @@
 // What the bytes of a field say: words, names and numbers.
+#![tactic(auto)]
+
 ghost use Rattle.std.specs.Prelude.{◌≡◌, ◌-◌};
 ghost use Rattle.text.specs.Bytes.{same};
 ghost use Rattle.text.specs.Decimal.{is_digit};

@@ -1,5 +1,7 @@
 // The kept list of every part of each file that the arguments name, one part a line: the file, the part's number and name, the number and the place of
 // the answer, then the pairs Q,X. 'stdout' has what the figures of the documents say.
+#![tactic(auto)]
+
 use libc::STDOUT_FILENO;
 use planner::Kept;
 use refusal::{FILE_LIMIT, KEPT_LIMIT, PART_LIMIT};

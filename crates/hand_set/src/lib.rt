@@ -1,4 +1,6 @@
 // The operations over numbers set by hand: the supply of a budget, and the weight of a lent list of rows.
+#![tactic(auto)]
+
 ghost use Rattle.std.specs.Prelude.{◌≡◌, ◌&&◌, [], min, ◌<◌, leb};
 ghost use Rattle.refusal.specs.Limits.{number_limit, row_limit};
 ghost use Rattle.load.specs.Weigh.{weigh_of};

@@ -1,4 +1,6 @@
 // Holding times of locks and of settings. The tasks are lent by columns (crate task_set).
+#![tactic(auto)]
+
 ghost use Rattle.std.specs.Prelude.{◌≡◌, List, ◌≤◌};
 ghost use Rattle.refusal.specs.Limits.{number_limit};
 ghost use Rattle.task_set.specs.declared.Task.{Task};

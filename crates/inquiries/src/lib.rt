@@ -1,4 +1,6 @@
 // The operations that ask about one part of a file: name and candidates.
+#![tactic(auto)]
+
 ghost use Rattle.std.specs.Prelude.{◌≡◌, ◌&&◌, leb};
 ghost use Rattle.refusal.specs.Questions.{outcome_of};
 ghost use Rattle.refusal.specs.Questions.Answer.{refused};

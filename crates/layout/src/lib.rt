@@ -1,4 +1,6 @@
 // The layout of ticks: which part has which tick of a cycle.
+#![tactic(auto)]
+
 ghost use Rattle.std.specs.Prelude.{◌≡◌, not, ◌++◌, ◌+◌, ◌≤◌, length, drop};
 ghost use Rattle.least.specs.Lists.{first_of};
 ghost use Rattle.least.specs.Code.Stored.{Stored};

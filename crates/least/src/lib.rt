@@ -1,4 +1,6 @@
 // Numbers: division rounded up, the answer of a bounded search, and fractions.
+#![tactic(auto)]
+
 ghost use Rattle.std.specs.Prelude.{◌≡◌, ◌+◌, ◌^◌, min, max, ◌≤◌, ◌<◌};
 ghost use Rattle.least.specs.Round.{ceil_div};
 ghost use Rattle.least.specs.Fraction.{less};

@@ -1,4 +1,6 @@
 // The lines that a plan prints: how long they are, and how they are written at a place of a lent buffer.
+#![tactic(auto)]
+
 ghost use Rattle.std.specs.Prelude.{◌≡◌, [], ◌∷◌, ◌+◌, ◌^◌, ◌≤◌, length};
 ghost use Rattle.text.specs.Bytes.{line_of};
 ghost use Rattle.text.specs.Decimal.{digits_of};

@@ -1,4 +1,6 @@
 // The system test of rows, their bounds and their load.
+#![tactic(auto)]
+
 ghost use Rattle.std.specs.Prelude.{◌≡◌, not, [], ◌≤◌, length, drop, take};
 ghost use Rattle.least.specs.Lists.{first_of, pad};
 ghost use Rattle.least.specs.Fraction.{frac, at_most, greatest_of};

@@ -1,4 +1,6 @@
 // Questions 4 to 9 of a `lock` line.
+#![tactic(auto)]
+
 ghost use Rattle.std.specs.Prelude.{◌≡◌, ◌≤◌};
 ghost use Rattle.refusal.specs.Limits.{lock_limit};
 ghost use Rattle.records.specs.Code.Cursor.{Within};

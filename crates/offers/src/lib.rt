@@ -1,4 +1,6 @@
 // The kept lists of all parts of a file, as rows to choose from: the pair at the place i of the part k, both from 0, at KEPT_LIMIT × k + i.
+#![tactic(auto)]
+
 ghost use Rattle.std.specs.Prelude.{◌≡◌, true, ◌*◌, ◌≤◌, ◌<◌, length};
 ghost use Rattle.least.specs.Code.Stored.{Stored};
 ghost use Rattle.refusal.specs.Limits.{part_limit, kept_limit};

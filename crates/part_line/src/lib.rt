@@ -1,4 +1,6 @@
 // Questions 4 to 9 of a `part` line.
+#![tactic(auto)]
+
 ghost use Rattle.std.specs.Prelude.{◌≡◌};
 ghost use Rattle.plan_file.specs.Code.Entries.{FineNames, part_entry};
 

@@ -1,5 +1,7 @@
 // plan: reads a plan file from standard input and prints its listing, or `refused` with the number and the place. Where the input cannot be read to its end it
 // prints no answer, and where the answer cannot be written it does not end in silence: one line on standard error says so.
+#![tactic(auto)]
+
 ghost use Rattle.std.specs.Prelude.{◌≤◌, length};
 ghost use Rattle.io.specs.Counts.{IsPrefixLen};
 

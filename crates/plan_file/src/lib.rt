@@ -1,4 +1,6 @@
 // What the reader keeps of the lines above, and what a record enters.
+#![tactic(auto)]
+
 ghost use Rattle.std.specs.Prelude.{◌≡◌};
 ghost use Rattle.stretch.specs.Stretch.{bytes_of};
 ghost use Rattle.plan_file.specs.Code.Entries.{FineNames, no_names, no_task_read, place_among, names_of};

@@ -1,4 +1,6 @@
 // The six operations: plan, chart, candidates, name with its outcome and its place, weigh (by value and over a lent slice) and supply; with what they take and answer.
+#![tactic(auto)]
+
 pub use answers::{CandidateList, Planned, Supplied};
 pub use candidates::{Kept, Pair};
 pub use hand_set::{supply, weigh_slice};

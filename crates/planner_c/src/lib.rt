@@ -1,4 +1,6 @@
 // The operations for callers in C and Rust. An answer has the refusal's number and place, zero on success, and its own numbers.
+#![tactic(auto)]
+
 ghost use Rattle.std.specs.Prelude.{◌≡◌};
 ghost use Rattle.load.specs.Weigh.{weigh_of, weigh_rows};
 ghost use Rattle.answers.specs.Answers.{PlanAnswered, ChartAnswered, candidates_of, candidate_list, supply_answer, supplied};

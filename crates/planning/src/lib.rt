@@ -1,4 +1,6 @@
 // The plan of a file, and its listing or its chart in the lent bytes.
+#![tactic(auto)]
+
 ghost use Rattle.std.specs.Prelude.{◌≡◌, ◌≤◌, length};
 ghost use Rattle.refusal.specs.declared.Outcome.TheVariants.{Done};
 ghost use Rattle.answers.specs.Answers.{HandedOver, PlanAnswered, ChartAnswered};

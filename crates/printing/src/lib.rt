@@ -1,4 +1,6 @@
 // The listing of a plan: how long it is, and how it is written into a lent buffer.
+#![tactic(auto)]
+
 ghost use Rattle.std.specs.Prelude.{◌≡◌, ◌≤◌, length};
 ghost use Rattle.writer.specs.Code.Written.{Written};
 ghost use Rattle.printing.specs.Code.Printing.{listing_at, shares_in, ToPrint};

@@ -1,4 +1,6 @@
 // Questions 3 to 9 of a record, against what the lines above say.
+#![tactic(auto)]
+
 ghost use Rattle.std.specs.Prelude.{◌≡◌, ◌&&◌};
 ghost use Rattle.records.specs.Code.Cursor.{FieldsWithin};
 ghost use Rattle.plan_file.specs.Code.Entries.{FineSeen, NumbersOf, end_entry, entry_of};

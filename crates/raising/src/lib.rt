@@ -1,4 +1,6 @@
 // The lowest ceilings of all locks of a part that are held for at most x, from those at a greater x. A lock that comes with the time 0, as a private one does, keeps its ceiling.
+#![tactic(auto)]
+
 ghost use Rattle.std.specs.Prelude.{◌≡◌, ◌≤◌, ◌<◌};
 ghost use Rattle.refusal.specs.Limits.{number_limit};
 ghost use Rattle.task_set.specs.Code.ByColumn.{times_of, FineTimes};

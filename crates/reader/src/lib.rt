@@ -1,4 +1,6 @@
 // The reader of a plan file: questions 1 to 9, line by line, then which locks are shared.
+#![tactic(auto)]
+
 ghost use Rattle.std.specs.Prelude.{◌≡◌, ◌<◌, ◌^◌};
 ghost use Rattle.reader.specs.Code.Reader.{no_part_read, closed_part, refused_file, ReadFromIs};
 

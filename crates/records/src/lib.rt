@@ -1,4 +1,6 @@
 // Records: a cursor that goes on line by line and hands back the next cursor and the record.
+#![tactic(auto)]
+
 ghost use Rattle.std.specs.Prelude.{◌≡◌, ◌<◌, ◌≤◌, ◌^◌};
 ghost use Rattle.records.specs.Code.Shapes.{up_to, end_of, first_field, field, word_of, part_shape, task_shape, lock_shape, end_shape, shape_of, TabsSmall};
 ghost use Rattle.records.specs.Code.Cursor.{NextIs};

@@ -1,4 +1,6 @@
 // What an operation answers besides its numbers: done, or one of the fifteen refusals with its place.
+#![tactic(auto)]
+
 ghost use Rattle.std.specs.Prelude.{◌≡◌};
 ghost use Rattle.refusal.specs.Number.{refusal_number, refusal_place, number_of, place_of};
 

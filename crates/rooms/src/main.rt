@@ -1,6 +1,8 @@
 // Example A planned in rooms about as long as its listing, which has 92 bytes; a listing of 35 bytes in as many and in one less; a file that is refused
 // with 10 in no room at all. 'stdout' has what each answer should be: number, place and bytes counted, and behind them the lent bytes, each of which was `.`
 // before.
+#![tactic(auto)]
+
 use libc::{STDIN_FILENO, STDOUT_FILENO};
 use refusal::FILE_LIMIT;
 

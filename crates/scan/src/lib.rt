@@ -1,4 +1,6 @@
 // One pass over a line of the file: where it ends, whether question 2 holds, and where its first five tabs stand.
+#![tactic(auto)]
+
 ghost use Rattle.std.specs.Prelude.{◌≡◌, ◌&&◌, leb};
 ghost use Rattle.scan.specs.Positions.{line_at};
 

@@ -1,5 +1,7 @@
 // What the scan of a line answers at every place of each file that the arguments name, behind a line with the file's name. One place a line: the place, 1 or 0
 // for question 2, where the byte 10 stands, how many of the first five tabs there are, and their five places. 'stdout' has what that should be.
+#![tactic(auto)]
+
 use libc::STDOUT_FILENO;
 use scan::Tabs;
 

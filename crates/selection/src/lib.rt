@@ -1,4 +1,6 @@
 // The choice of least load among the rows that each part offers.
+#![tactic(auto)]
+
 ghost use Rattle.std.specs.Prelude.{◌≡◌, [], ℕ, ◌≤◌, ◌<◌, get_or, drop};
 ghost use Rattle.least.specs.Fraction.{at_most};
 ghost use Rattle.refusal.specs.Limits.{number_limit, part_limit, kept_limit};

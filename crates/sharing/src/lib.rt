@@ -1,5 +1,7 @@
 // Which locks of a file are shared: named in more than one part. The lock names of all parts are compared as numbers, which stand in one array: those of the part at
 // the place k from LOCK_LIMIT × k on, 0 in the places that are left.
+#![tactic(auto)]
+
 ghost use Rattle.std.specs.Prelude.{◌≡◌, ◌≤◌, ◌<◌, length};
 ghost use Rattle.refusal.specs.Limits.{part_limit, lock_limit};
 ghost use Rattle.refusal.specs.Code.Limits.{ceiling_places};

@@ -1,4 +1,6 @@
 // The ceilings shown for a holding time of a part.
+#![tactic(auto)]
+
 ghost use Rattle.std.specs.Prelude.{◌≡◌, ◌≤◌, ◌<◌, length};
 ghost use Rattle.refusal.specs.Limits.{number_limit, part_limit};
 ghost use Rattle.refusal.specs.Code.Limits.{ceiling_places};

@@ -1,4 +1,6 @@
 // A stretch of the file, handed back as that part of the caller's own bytes.
+#![tactic(auto)]
+
 ghost use Rattle.std.specs.Prelude.{◌≡◌, ◌+◌, ◌≤◌, length};
 ghost use Rattle.stretch.specs.Stretch.{bytes_of, StretchOf};
 

@@ -1,4 +1,6 @@
 // The supply of a budget, and its inverse.
+#![tactic(auto)]
+
 ghost use Rattle.std.specs.Prelude.{◌≡◌, ◌+◌, ◌≤◌};
 ghost use Rattle.refusal.specs.Limits.{number_limit};
 ghost use Rattle.supply.specs.Supply.{supply_of};

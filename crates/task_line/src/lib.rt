@@ -1,4 +1,6 @@
 // Questions 4 to 9 of a `task` line.
+#![tactic(auto)]
+
 ghost use Rattle.std.specs.Prelude.{◌≡◌};
 ghost use Rattle.stretch.specs.Stretch.{bytes_of};
 ghost use Rattle.records.specs.Code.Cursor.{Within};

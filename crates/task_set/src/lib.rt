@@ -1,4 +1,6 @@
 // The tasks of a part and the locks that they share.
+#![tactic(auto)]
+
 ghost use Rattle.std.specs.Prelude.{◌≡◌, ◌≤◌, ◌<◌};
 ghost use Rattle.task_set.specs.Code.Fine.{FinePart};
 ghost use Rattle.task_set.specs.Code.ByColumn.{ColumnsAre};

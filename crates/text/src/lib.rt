@@ -1,1 +1,3 @@
 // Bytes, lines, fields and numbers in base ten.
+#![tactic(auto)]
+

@@ -1,4 +1,6 @@
 // The utilisation of a part: where that of all parts is above 1, no choice passes the system test.
+#![tactic(auto)]
+
 ghost use Rattle.task_set.specs.Code.Fine.{FinePart};
 ghost use Rattle.utilisation.specs.Code.Utilisation.{ShareIs};
 

@@ -1,4 +1,6 @@
 // Bytes, words and numbers in base ten, written at a place of a lent buffer where there is room.
+#![tactic(auto)]
+
 ghost use Rattle.std.specs.Prelude.{◌≡◌, [], ◌∷◌, ◌++◌, ◌+◌, ◌≤◌, length};
 ghost use Rattle.text.specs.Decimal.{digits_of};
 ghost use Rattle.writer.specs.Code.Written.{Written};
