@@ -10,6 +10,7 @@ use Rattle.demand.specs.Code.Demand.{demand_from, demand_limit}
 use Rattle.demand.proofs.Demand.{demand_most}
 use Rattle.envelope.proofs.Under.{Under, under_start, under_fixed_most, under_fixed, under_slope, under_end}
 use Rattle.envelope.proofs.line_from.Goals as goal
+use Rattle.envelope.proofs.line_from.Goals.{then-far-m, else-far-m}
 use Rattle.envelope.proofs.line_from.Goals.{After-fixed-1, Start}
 
 -- the whole is within its limit
@@ -95,10 +96,14 @@ pub loop-k-preserved : goal.loop-k-preserved
 loop-k-preserved c =
     let at = c.loop-k in
     rw add-one
-    (⊎_elim
-    (λ w. rw (w.2, w.3) (under_fixed c.args.periods.now c.args.costs.now c.args.n c.args.s c.args.t c.requires.0 at.fixed at.slope at.k at.invariant c.loop-k-test.true c.releases-m.result c.releases-m.ensures))
-    (λ w. rw (w.4, w.5) (under_slope c.args.periods.now c.args.costs.now c.args.n c.args.s c.args.t c.requires.0 at.fixed at.slope at.k at.invariant c.loop-k-test.true _ w.3.ensures))
-    c.if-far-m.branch)
+    (elim c.if-far-m.branch [
+      then-far-m w ↦
+          rw (w.fixed-is, w.slope-is)
+          (under_fixed c.args.periods.now c.args.costs.now c.args.n c.args.s c.args.t c.requires.0 at.fixed at.slope at.k at.invariant c.loop-k-test.true c.releases-m.result c.releases-m.ensures)
+      | else-far-m w ↦
+          rw (w.fixed-is, w.slope-is)
+          (under_slope c.args.periods.now c.args.costs.now c.args.n c.args.s c.args.t c.requires.0 at.fixed at.slope at.k at.invariant c.loop-k-test.true _ w.steeper-slope.ensures)
+    ])
 
 pub returns : goal.returns
 returns c =

@@ -9,6 +9,7 @@ use Rattle.least.specs.Lists.{pad}
 use Rattle.scan.specs.Positions.{first_five}
 use Rattle.scan.proofs.Scan.{good_at, from_start, at_newline, at_forbidden, at_plain, at_tab, at_end, five_stored, five_full}
 use Rattle.scan.proofs.line_at.Goals as goal
+use Rattle.scan.proofs.line_at.Goals.{then-count-lt5, else-count-lt5}
 
 pub loop-i-init : goal.loop-i-init
 unfolding first_five pad
@@ -28,10 +29,10 @@ pub loop-i-preserved : goal.loop-i-preserved
 loop-i-preserved c =
     let s = c.args.s.now in (
       c.loop-i.invariant.0 ++ c.loop-i.i ∷ [],
-      ⊎_elim
-          (λ w. rw (w.1, w.2) (five_stored _ _ c.loop-i.invariant.0 c.loop-i.i c.loop-i.invariant.1 (omega (arith, w.0.taken))))
-          (λ w. rw (w.1, w.2) (five_full _ _ c.loop-i.invariant.0 c.loop-i.i c.loop-i.invariant.1 w.0.left))
-          c.if-count-lt5.branch,
+      elim c.if-count-lt5.branch [
+        then-count-lt5 w ↦ rw (w.count-is, w.place-is) (five_stored _ _ c.loop-i.invariant.0 c.loop-i.i c.loop-i.invariant.1 (omega (arith, w.if-count-lt5.true)))
+        | else-count-lt5 w ↦ rw (w.count-is, w.place-is) (five_full _ _ c.loop-i.invariant.0 c.loop-i.i c.loop-i.invariant.1 w.if-count-lt5.false)
+      ],
       c.loop-i.invariant.2 ∙ at_tab s c.loop-i.i c.loop-i.invariant.0 c.loop-i-test.true c.if-b-ne9.false,
     )
 
