@@ -3,8 +3,12 @@
 use mathlib.Core.Path.{refl}
 use Rattle.least.specs.Lists.{pad}
 use Rattle.load.specs.Weigh.{weighed}
-use Rattle.load.proofs.refused.Goals as goal
+use Rattle.load.proofs.refused.Statement.{statement}
+use Rattle.load.proofs.refused.Tie as tie
 
-pub returns : goal.returns
+returns : tie.Need-returns
 unfolding weighed pad
 returns c = refl
+
+pub refused_spec : {M : Type 1} → statement M
+refused_spec = tie.close (tie.spec returns)
