@@ -17,9 +17,9 @@ use Rattle.layout.proofs.first_out_of_cycle.Statement.{statement}
 use Rattle.layout.proofs.first_out_of_cycle.Tie as tie
 
 -- the test of the code is that of the definition
-in_cycle : (r : Row) → cycle % r.period ≡ 0 → in_cycle r ≡ true
+in_cycle_lem : (r : Row) → cycle % r.period ≡ 0 → in_cycle r ≡ true
 unfolding in_cycle
-in_cycle r e = eq-eqb _ _ e
+in_cycle_lem r e = eq-eqb _ _ e
 
 out_of_cycle : (r : Row) → (cycle % r.period ≡ 0 → ⊥) → in_cycle r ≡ false
 unfolding in_cycle
@@ -56,7 +56,7 @@ loop_again : tie.Need-loop-preserved invariant_loop decreases_loop
 loop_again c =
     let s = c.before.before.before.before.before in
     let l = c.before.before.before.before.loop in
-    none_more no_row (λ r. not (in_cycle r)) s.args.t1.rows l.k l.invariant (ap not (in_cycle _ c.if1.true))
+    none_more no_row (λ r. not (in_cycle r)) s.args.t1.rows l.k l.invariant (ap not (in_cycle_lem _ c.if1.true))
 
 add_result : tie.Need-overflow-add-result invariant_loop decreases_loop
 add_result c = let s = c.before.before.before.before.before in omega (arith, s.requires.few)

@@ -40,7 +40,7 @@ loop_again c =
     let s = c.before.before.before.before.before.before.before.before in
     let l = c.before.before.before.before.before.before.loop in
     let a = s.args in
-    periods_next a.out.now a.period a.budget a.k l.from l.out _ s.requires.0 l.invariant (omega arith) (rw c.before.before.before.before.smaller.ensures at c.before.before.IsPlace-in.ensures)
+    periods_next a.out.now a.period a.budget a.k l.from l.out _ s.requires.0 l.invariant (omega arith) (rw c.before.before.before.before.smaller.ensures at c.before.before.place_in.ensures)
 
 same_length : tie.Need-same-length invariant_loop decreases_loop
 same_length c = search rules
