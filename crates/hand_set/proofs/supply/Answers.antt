@@ -10,8 +10,7 @@ use Rattle.least.proofs.Lists.{and_iff}
 use Rattle.refusal.specs.Limits.{number_limit}
 use Rattle.refusal.specs.Questions.{when_done, first_no}
 use Rattle.answers.specs.Answers.{supply_answer, supplied}
-use Rattle.hand_set.proofs.supply.Statement.{statement}
-use Rattle.hand_set.proofs.supply.Tie as tie
+use Rattle.hand_set.proofs.supply.Goals as goal
 
 -- the four tests, one by one
 in_range : (p q t : ℕ) → (leb 1 q && leb q p) && (leb p number_limit && leb t number_limit) ≡ true → (1 ≤ q) × (q ≤ p) × (p ≤ number_limit) × (t ≤ number_limit)
@@ -21,23 +20,17 @@ in_range p q t e =
     let c = (and_iff (leb p number_limit) (leb t number_limit)).0 a.1 in
     (leb-true 1 q b.0, leb-true q p b.1, leb-true p number_limit c.0, leb-true t number_limit c.1)
 
-is_in_range_requires : tie.Need-is-in-range-requires
-is_in_range_requires c κs = tt
-
-supply_requires : tie.Need-supply-requires
-supply_requires c κs =
-    let a = c.before.before.args in
-    let r = in_range a.p a.q a.t (sym c.before.is_in_range.ensures ∙ c.if1.true) in
+pub supply-requires : goal.supply-requires
+supply-requires c =
+    let a = c.args in
+    let r = in_range a.p a.q a.t (sym c.is_in_range.ensures ∙ c.if-is_in_range.true) in
     omega (arith, r.0, r.1, r.2, r.3)
 
-returns : tie.Need-returns
+pub returns-then-is_in_range : goal.returns-then-is_in_range
 unfolding supplied supply_answer when_done first_no
-returns c =
-    simp (sym c.before.before.is_in_range.ensures ∙ c.before.if1.true, c.supply.ensures)
+returns-then-is_in_range c =
+    simp (sym c.is_in_range.ensures ∙ c.if-is_in_range.true, c.supply.ensures)
 
-returns_2 : tie.Need-returns-2
+pub returns : goal.returns
 unfolding supplied supply_answer when_done first_no
-returns_2 c = simp (sym c.before.is_in_range.ensures ∙ c.if1.false)
-
-pub supply_spec : {M : Type 1} → statement M
-supply_spec = tie.close (tie.spec is_in_range_requires supply_requires returns returns_2)
+returns c = simp (sym c.is_in_range.ensures ∙ c.if-is_in_range.false)

@@ -5,11 +5,7 @@ use mathlib.Core.List.{List}
 use Rattle.least.proofs.Pad.{pad_none}
 use Rattle.load.specs.declared.Row.{Row}
 use Rattle.load.specs.Load.{row}
-use Rattle.hand_set.proofs.no_rows.Statement.{statement}
-use Rattle.hand_set.proofs.no_rows.Tie as tie
+use Rattle.hand_set.proofs.no_rows.Goals as goal
 
-returns : tie.Need-returns
+pub returns : goal.returns
 returns c = ap (λ (rows : List Row). record { rows = rows; count = c.args.n }) (pad_none 16 (row 0 0 0))
-
-pub no_rows_spec : {M : Type 1} → statement M
-no_rows_spec = tie.close (tie.spec returns)
