@@ -10,6 +10,8 @@ from pathlib import Path
 sys.dont_write_bytecode = True
 from statements import groups, source
 
+# The libraries of the toolchain whose words the crates take; what is believed of these is said in README.md.
+LIBRARIES = ('std', 'io')
 # The crates whose definitions, all of them, are promises or examples.
 PROMISING = ('planner', 'examples')
 WORD = re.compile(r'"(?:\\.|[^"\\\n])*"|[^\s(){}\[\];,"]+')
@@ -46,8 +48,8 @@ def definitions(path, text, head=''):
 # ---- names
 
 def marks(name):
-    """The words by which a text names this: `_⊑_` and `⊑` for `_⊑_`."""
-    return {name, *(part for part in name.split('_') if part)}
+    """The words by which a text names this: `◌⊑◌` and `⊑` for `◌⊑◌`."""
+    return {name, *(part for part in name.split('◌') if part)}
 
 
 def words(text):
@@ -68,13 +70,13 @@ def uses(text):
 
 def unread(text):
     """The other lines that take something from a crate, in whatever layout."""
-    return [' '.join(line.split()) for line in re.findall(r'^.*\buse\s.*Rattle·.*', USE.sub('', text), re.M)]
+    return [' '.join(line.split()) for line in re.findall(r'^.*\buse\s.*Rattle\..*', USE.sub('', text), re.M)]
 
 
 def page_of(top, module):
-    """The page of a module of specs, and what of the page is named: `Rattle·load.specs.Code.Rows`, or `Rattle·load·specs.specs.Code.Rows` in its
-    own crate, is crates/load/specs/Code/Rows.antt. No page has the structs and enums of the code, which are `declared`."""
-    said = re.fullmatch(r'Rattle·(\w+)(?:·specs)?\.specs\.(?!declared\b)(\S+)', module)
+    """The page of a module of specs, and what of the page is named: `Rattle.load.specs.Code.Rows` is crates/load/specs/Code/Rows.antt. No page has the
+    structs and enums of the code, which are `declared`, nor the words of a library of the toolchain."""
+    said = re.fullmatch(rf'Rattle\.(?!(?:{"|".join(LIBRARIES)})\.)(\w+)\.specs\.(?!declared\b)(\S+)', module)
     steps = said[2].split('.') if said else []
     paths = [f'crates/{said[1]}/specs/{"/".join(steps[:end])}.antt' for end in range(len(steps), 0, -1)]
     there = [(path, steps[len(steps) - at:]) for at, path in enumerate(paths) if (top / path).exists()]
@@ -105,12 +107,12 @@ class Pages:
         # definitions and contracts take what they need by name, and from specs
         if '/proofs/' not in path:
             self.faults += [f'{path}: `{line}` cannot be read' for line in unread(text)]
-            self.faults += [f'{path}: {name} is taken from a proof' for module, name, _ in uses(text) if re.match(r'Rattle·\S+\.proofs\.', module)]
+            self.faults += [f'{path}: {name} is taken from a proof' for module, name, _ in uses(text) if re.match(r'Rattle\.\S+\.proofs\.', module)]
         return known
 
     def named(self, path, known, text):
         """The definitions that a text of a file names."""
-        self.faults += [f'{path}: {word} stands with its whole path' for word in WORD.findall(text) if word[0] != '"' and 'Rattle·' in word]
+        self.faults += [f'{path}: {word} stands with its whole path' for word in WORD.findall(text) if word[0] != '"' and 'Rattle.' in word]
         return [known[word] for word in words(text) if word in known]
 
     def believed(self, promises):

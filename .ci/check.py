@@ -33,7 +33,7 @@ THEOREMS = [
     ('planner', 'nothing_free', 'NothingFree'),
     ('examples', 'examples', 'AllHold table'),
     ('examples', 'all_shut_out', 'AllShutOut'),
-    ('scan', 'every_line_scanned', 'EveryLineScanned lineAt'),
+    ('scan', 'every_line_scanned', 'EveryLineScanned line_at'),
     ('scan', 'scan_settled', 'ScanSettled'),
     ('ranges', 'numbers_up_to', 'NumbersUpTo 1000000'),
     ('ranges', 'greatest_values', 'GreatestValues 1000000'),
@@ -44,6 +44,8 @@ THEOREMS = [
     ('kept_pairs', 'kept_pairs', 'KeptPairs'),
     ('cycle_chart', 'cycle_chart', 'CycleChart'),
 ]
+# What rt ci printed, as .ci/run leaves it.
+LOG = 'target/ci.log'
 # How many rows of the table of examples each letter of paper 01 has, and each request of paper 02 with examples there.
 ROWS = {'A': 1, 'B': 5, 'C': 2, 'D': 1, 'E': 1, 'F': 1, 'G': 1, 'H': 1, 'I': 1, 'J': 1, 'K': 5, 'L': 3, 'M100': 4, 'M109': 8}
 
@@ -85,8 +87,7 @@ def signatures(text):
 
 def says_nothing(statement):
     """Whether a clause has a statement that is true of everything: `Unit`, `⊤`, or the same on both sides."""
-    pure = re.findall(r'⌜(.*?)⌝', statement, re.S) or [re.sub(r'^\s*(?:λ[^.]*\.)?', '', statement)]
-    return any(re.fullmatch(r'[\s()]*(?:Unit|⊤|([^≡]*?)\s*≡\s*\1)?[\s()]*', said) for said in pure)
+    return bool(re.fullmatch(r'[\s()]*(?:Unit|⊤|([^≡]*?)\s*≡\s*\1)?[\s()]*', statement))
 
 
 def public(top, name):
@@ -98,10 +99,11 @@ def check_contracts(top):
     """Every public function has an `ensures`, and each says something; the operations, which are those of OPERATIONS, have no `requires`."""
     offered = set()
     for use in re.findall(r'^\s*pub use ([^;]*);', source(top / 'crates' / 'planner' / 'src' / 'lib.rt'), re.M):
-        if not re.fullmatch(r'\w+::\w+', use):
-            yield f'planner: `pub use {use}` is not of the form crate::name'
-        elif use.split('::')[1][0].islower():
-            offered.add(use)
+        form = re.fullmatch(r'(\w+)::(\w+|\{\s*\w+(?:,\s*\w+)*,?\s*\})', use)
+        if not form:
+            yield f'planner: `pub use {use}` is not of the form crate::name or crate::{{name, name}}'
+        else:
+            offered |= {f'{form[1]}::{name}' for name in re.findall(r'\w+', form[2]) if name[0].islower()}
     for name in ('planner', 'planner_c', 'console'):
         offered |= {f'{name}::{fn}' for fn, _ in public(top, name)}
     for name in sorted(offered ^ OPERATIONS):
@@ -162,18 +164,23 @@ SIGNATURE = re.compile(r'\bfn (\w+)(.*?)(?:\brequires\b|\bensures\b|\{)', re.S)
 
 
 def named(top, name):
-    """The crates that the files of a crate name, and other words: in code what stands before `::`, elsewhere what stands behind `Rattle·`. What a wrong version puts in counts too."""
+    """The crates that the files of a crate name, and other words: in code what stands before `::`, elsewhere what stands behind `Rattle.`. What a wrong version puts in counts too."""
     crate, found = top / 'crates' / name, set()
     for path in [*crate.glob('src/**/*.rt'), *crate.glob('specs/**/*.antt'), *crate.glob('proofs/**/*.antt'), *crate.glob('must-fail/*.edit')]:
         text = ' '.join(re.findall(r'^new: (.*)', path.read_text(), re.M)) if path.suffix == '.edit' else source(path)
-        found |= {*re.findall(r'Rattle·(\w+)', text), *(re.findall(r'(?<![\w:])(\w+)::', text) if path.suffix != '.antt' else [])}
+        found |= {*re.findall(r'\bRattle\.(\w+)', text), *(re.findall(r'(?<![\w:])(\w+)::', text) if path.suffix != '.antt' else [])}
     return found
+
+
+def one_by_one(text):
+    """Code where each `use crate::{name, name};` stands as `use crate::name; use crate::name;`."""
+    return re.sub(r'\buse (\w+)::\{([^{}]*)\};', lambda use: ' '.join(f'use {use[1]}::{item.strip()};' for item in use[2].split(',') if item.strip()), text)
 
 
 def offered(top, name):
     """Of the code of a crate: what it takes by `use`, as {name: crate}; what it declares, as {name: the types in it}, for a function those of its signature, for a type those of its
     fields and methods; and what it asks for under another crate's name."""
-    text = '\n'.join(source(path) for path in sorted((top / 'crates' / name / 'src').glob('**/*.rt')))
+    text = '\n'.join(one_by_one(source(path)) for path in sorted((top / 'crates' / name / 'src').glob('**/*.rt')))
     parts = SIGNATURE.findall(text)
     for kind in re.finditer(r'\b(struct|enum|impl) (\w+)\s*(?=\{)', text):
         body = text[kind.end():after_brace(text, kind.end())]
@@ -210,15 +217,16 @@ def check_crates(top):
 
 # ---- must-fail edits
 
-# How an edit's comment ends, behind a colon or a full stop: "`a` and law `b` must break.", "`a`, so `b`, must break." A function's need, as its proof file names it, is `a/returns`.
+# How an edit's comment ends, behind a colon or a full stop: "`a` and law `b` must break.", "`a`, so `b`, must break." A function's goal, as rt names it, is `a/returns`.
 NAME = r'(?:laws? |the function )?`[^`\s]+`'
 NAMES = rf'{NAME}(?:(?:, | and ){NAME})*'
 MUST_BREAK = re.compile(rf'[:.] ({NAMES})(?:, so ({NAMES}),)? must break\.$')
 # An error that says nothing of a fact: the proof no longer fits the code, something cannot be read, or a tactic gave up.
-VACUOUS = re.compile(r'that can be named from here|has no field|expected type `tie\.Need-[^`]*`,? +but this has type `tie\.Need-'
-                     r'|not in scope|is not declared|expected an expression|Parse|cannot be read|met a bound of its own')
+VACUOUS = re.compile(r'that can be named from here|has no field|has no `|not in scope|is not declared|expected an expression|Parse|cannot be read|met a bound of its own')
 # An error that is there only because of another one.
 FOLLOWS = re.compile(r'was not admitted|, which is not proved')
+# What rt says of an edit that it refused by its meaning; behind that stands the first error, cut off after some words, or the first goal that is not proved.
+REFUSED = 'refused, as it must be: '
 
 
 def folder(fn):
@@ -227,7 +235,7 @@ def folder(fn):
 
 
 def is_of(thing, place, law):
-    """Whether an error at this place, in this law, is one of what must break: a function, one of its needs, or a law."""
+    """Whether an error at this place, in this law, is one of what must break: a function, one of its goals, or a law."""
     fn, _, need = thing.partition('/')
     return place.startswith(folder(fn)) and need in ('', law) or law == thing and place.count('/') == 1
 
@@ -242,39 +250,61 @@ def edits(top):
             yield crate, path, re.findall(r'`([^`]+)`', first), re.findall(r'`([^`]+)`', then)
 
 
-def errors(name, text):
-    """The errors in an edit's log: the place in the crate, the law or definition, what is said. What is said of a function without a proof file counts as in its folder."""
-    for line in re.sub(r'\n +', ' ', text).splitlines():
-        if fn := re.match(r'fn \w+::(\S+): (?:no proof|not proved).*; (`search` does not close .*`returns.*|it calls .*)', line):
-            yield folder(fn[1]), '', fn[2]
-        elif error := re.match(rf'(?:.*?/must-fail/{name}/)?(\S+?):\d+:\d+: error\S*: (?:`([^`]+)`: )?(.*)', line):
-            yield error[1], error[2] or '', error[3]
+def functions(text):
+    """Each function of a file of code, in order, as (the line of its `fn`, its name); that of a method is `Type::name`."""
+    kind, found = '', []
+    for number, line in enumerate(text.splitlines(), 1):
+        if line and not line[0].isspace():
+            kind = (re.match(r'impl(?:<[^>]*>)? (?:\w+ for )?(\w+)', line) or ('', ''))[1]
+        if fn := re.match(r'\s*(?:pub(?:\(\w+\))? )?(?:extern "C" |const |unsafe )*fn (\w+)', line):
+            found.append((number, f'{kind}::{fn[1]}' if kind and line[0].isspace() else fn[1]))
+    return found
+
+
+def first_error(crate, said):
+    """Of what rt says of a refused edit: the place in the crate, the law or goal, what is said. What is not proved at a place of the code counts as in the folder of the function there."""
+    if goal := re.match(r'note: (\S+?):(\d+):\d+: (it is not proved that [^`]*\(`([^`]+)`\).*)', said):
+        path = crate / goal[1]
+        above = [fn for number, fn in functions(path.read_text()) if number <= int(goal[2])] if path.exists() else []
+        return folder(above[-1]) if above else goal[1], goal[4], goal[3]
+    error = re.match(r'(?:\./)?(\S+?):\d+:\d+: error\S*: (?:`([^`]+)`: )?(.*)', said)
+    return (error[1], error[2] or '', error[3]) if error else ('', '', said)
+
+
+def outcomes(top):
+    """What the log of rt ci says of each must-fail edit, by `crate/name`."""
+    log = top / LOG
+    return dict(re.findall(r'^rt: must-fail (\S+)\.edit: (.*)', log.read_text(errors='replace'), re.M)) if log.exists() else {}
 
 
 def check_edits(top):
-    """No edit was refused for a vacuous reason: what its comment says must break does break, and by a fact."""
+    """No edit was refused for a vacuous reason: what breaks first is what its comment says must break, and by a fact. As many were refused as there are, and none was bad."""
+    told, count = outcomes(top), 0
     for crate, path, first, then in edits(top):
-        name, log = f'{crate}/{path.stem}', top / 'target' / 'must-fail' / crate / path.stem / '.log'
+        name, count = f'{crate}/{path.stem}', count + 1
         if not first:
             yield f'{name}: its comment does not say what must break'
+        known = declared(top, crate) if first else set()
+        for thing in first + then:
+            if thing.split('/')[0].split('::')[-1] not in known:
+                yield f'{name}: the crate declares no {thing}'
         if re.search(r'^file: proofs/', path.read_text(), re.M):
             yield f'{name}: it changes a proof, which shows nothing'
-        if not log.exists():
-            yield f'{name}: no log of this must-fail edit'
-            continue
-        found = list(errors(name, log.read_text(errors='replace')))
-        unfit = [f'{place}: {said}' for place, _, said in found if not place.startswith('proofs/')]
-        if unfit:
-            yield f'{name}: refused before any proof: {unfit[0][:200]}'
-        elif found and VACUOUS.search(found[0][2]):
-            yield f'{name}: refused for a vacuous reason: {found[0][2][:200]}'
-        for thing in first + then:
-            own = [said for place, law, said in found if is_of(thing, place, law)]
-            facts = [said for said in own if not FOLLOWS.search(said)]
-            if not own:
-                yield f'{name}: {thing} does not break'
-            elif thing in first and (not facts or VACUOUS.search(facts[0])):
-                yield f'{name}: {thing} breaks for a vacuous reason: {(facts or own)[0][:200]}'
+        if name not in told:
+            yield f'{name}: no outcome of this must-fail edit in {LOG}'
+        elif not told[name].startswith(REFUSED):
+            yield f'{name}: not refused by what it means: {told[name][:200]}'
+        else:
+            place, law, said = first_error(top / 'crates' / crate, told[name][len(REFUSED):])
+            if not place.startswith('proofs/'):
+                yield f'{name}: refused before any proof: {place}: {said[:200]}'
+            elif VACUOUS.search(said) or FOLLOWS.search(said):
+                yield f'{name}: refused for a vacuous reason: {said[:200]}'
+            elif not any(is_of(thing, place, law) for thing in first):
+                yield f'{name}: {" and ".join(first)} must break, and first breaks {law} in {place}'
+    refused = re.findall(r'^rt: ok; .*; must-fail edits: (.*?);', (top / LOG).read_text(errors='replace') if (top / LOG).exists() else '', re.M)
+    if refused != [f'{count} refused']:
+        yield f'{LOG}: must-fail edits: {" and ".join(refused) or "none"}, and there are {count}'
 
 
 def check_shut_outs(top):
@@ -296,7 +326,7 @@ def check_one_pass(top):
     has a line scanned once."""
     scan, cursor = (source(top / 'crates' / name / 'src' / 'lib.rt') for name in ('scan', 'records'))
     for what, form, text in (
-        ('scan: a loop', r'\b(?:while|loop|for)\b', scan), ('scan: a place where the file is read', r'\bs\b(?!:|\.len\(\)| \.entry)', scan), ('records: a call of scan::line_at', r'\bline_at\(', cursor),
+        ('scan: a loop', r'\b(?:while|loop|for)\b', scan), ('scan: a place where the file is read', r'\bs\b(?!:|\.len\(\)|\.now\b)', scan), ('records: a call of scan::line_at', r'\bline_at\(', cursor),
     ):
         if (found := len(re.findall(form, text))) != 1:
             yield f'{what} stands {found} times, and must stand once'
@@ -398,17 +428,29 @@ def check_poster(top):
 
 
 def check_verdicts(top):
-    """Every library is proved, and its verdict names nothing that is assumed."""
+    """Every library is proved, and its verdict names nothing that is assumed. Where rt ci kept it, since an earlier run proved the same files, there is no new verdict, and none of its files
+    postulates."""
+    log = (top / LOG).read_text(errors='replace') if (top / LOG).exists() else ''
+    parts = re.split(r'^== (\w+)\n', log, flags=re.M)
+    blocks = dict(zip(parts[1::2], parts[2::2]))
     for name in crates(top):
-        if (top / 'crates' / name / 'src' / 'lib.rt').exists():
-            log = top / 'target' / 'log' / f'{name}.out'
-            verdicts = re.findall(r'^logic=.*', log.read_text(), re.M) if log.exists() else []
-            if not verdicts or not verdicts[-1].startswith('logic=proved '):
-                yield f'{name}: no verdict in its log'
-                continue
-            words = {word.split('=')[0] for word in verdicts[-1].split()}
-            for word in sorted(words - {'logic', 'functions', 'sum', 'native', 'logic-built', 'libraries-built'}):
-                yield f'{name}: the verdict names an assumption, {word}'
+        crate = top / 'crates' / name
+        if not (crate / 'src' / 'lib.rt').exists():
+            continue
+        for path in [*crate.glob('specs/**/*.antt'), *crate.glob('proofs/**/*.antt')]:
+            if re.search(r'^\s*(?:pub )?postulate\b', source(path), re.M):
+                yield f'{name}: {path.relative_to(top)} postulates'
+        if re.search(rf'^rt: {name} is kept: an earlier run on this machine proved the same files', log, re.M):
+            continue
+        verdicts = re.findall(r'^logic=.*', blocks.get(name, '').partition('\nrt: ')[0], re.M)
+        if not verdicts or not verdicts[-1].startswith('logic=proved ') or not re.search(rf'^rt: {name} proved$', log, re.M):
+            yield f'{name}: no verdict in {LOG}'
+            continue
+        words = {word.split('=')[0] for word in verdicts[-1].split()}
+        for word in sorted(words - {'logic', 'functions', 'sum', 'native', 'logic-built', 'libraries-built', 'statements'}):
+            yield f'{name}: the verdict names an assumption, {word}'
+    if re.findall(r'^rt: ok; (.*?);', log, re.M) != ['handles allowed: none']:
+        yield f'{LOG}: it must say once that no handle is allowed'
 
 
 def check_tests(top):

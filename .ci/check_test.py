@@ -27,8 +27,8 @@ pub fn ceil_div(
     t: u64,
     period: u64,
 ) -> u64
-    requires { ⌜ Positive {0} {1} period ⌝ }
-    ensures result { λ r. ⌜ r ≡ ceilDiv t period ⌝ }
+    requires { Positive {0} {1} period }
+    ensures rounded { result ≡ ceil_of t period }
 {
     inner(t)
 }
@@ -39,31 +39,25 @@ fn inner(t: u64) -> u64 {
 
 impl Frac {
     pub fn next(self) -> Frac
-        ensures { λ r. ⌜ r ≡ nextOf self ⌝ }
+        ensures { result ≡ next_of self }
     {
         self
     }
 }
 '''
 BARE = 'pub fn anything(a: u64) -> u64 {\n    a / 2\n}\n'
-HALF = '#[no_mangle]\npub extern "C" fn planner_half(a: u64) -> u64 {\n    a / 2\n}\n'
+HALF = '#[unsafe(no_mangle)]\npub extern "C" fn planner_half(a: u64) -> u64 {\n    a / 2\n}\n'
 FOLLOWS = 'was not admitted (it has holes or undetermined implicits, or was rejected), so this cannot be checked'
-DOWN_LOG = f'''@proofs/Round.antt:1:2: error: `ceil_least`: `omega`: the goal fails
-  at `t` = 1
-@proofs/Round.antt:9:2: error: `ceil_covers`: `ceil_least` {FOLLOWS}
-fn least::ceil_div: proved
-'''
-STEP_LOG = '''fn least::inner: no proof: expected `inner-spec` in @proofs/inner/Proof.antt; `search` does not close `returns`, `returns_2`
-fn least::ceil_div: not proved; it calls `least::inner`, which is not proved
-@proofs/Frac/next/Proof.antt:1:2: error: `returns`: `search`: no proof of `a`
-'''
-SHAPE = 'expected type `tie.Need-a`\n  but this has type `tie.Need-b`'
+# What the log says of two wrong versions of `least`: an error in a law, and a goal of the function at a line of the code.
+DOWN_SAID = './proofs/Round.antt:1:2: error: `ceil_least`: `omega`: the goal fails'
+STEP_SAID = 'note: src/lib.rt:25:9: it is not proved that what the function ensures holds when it returns (`returns`)'
 TRACE = '''| mark | definition | theorem or contract | test |
 |---|---|---|---|
-| I1 | `least ceil_div` | – | `least must-fail/down` |
+| I1 | `least ceil_of` | – | `least must-fail/down` |
 | F12 | – | `planning plan` | `docs/PAPER-01.md`, `must-fail/` |
 | D1 | `planner Demand1` | – | – |
 '''
+LOG = check.LOG
 M_102, LANDED = 'docs/landings/m-102.md', 'Landed: docs/landings/m-102.md.'
 NOTE = '''# M-102: lines walked once
 
@@ -90,10 +84,10 @@ All crates: 4 min 19 s before, 1 h 2 min after.
 - Renames: none.
 '''
 DEMAND = """-- Demand 1 as a statement.
-use Rattle·answers.specs.Answers.{HandedOver}
+use Rattle.answers.specs.Answers.{HandedOver}
 
 abbrev pub OfTheFile : Refusal → Type 0
-OfTheFile r = refusalNumber r ≤ 9
+OfTheFile r = refusal_number r ≤ 9
 
 pub record Demand1 (Promise : List ℕ → Type 0) : Type 0 where
   -- a listing or a refusal
@@ -104,7 +98,7 @@ pub record Demand1 (Promise : List ℕ → Type 0) : Type 0 where
 pub record Demand3 : Type 0 where
   pub untouched : (s : List ℕ) → Unwritten s
 """
-HANDED = """pub planOf : List ℕ → ℕ
+HANDED = """pub plan_of : List ℕ → ℕ
 
 pub record HandedOver (r : Planned) : Type 0 where
   pub result : r ≡ planned
@@ -118,11 +112,11 @@ EveryLineScanned = (s : List ℕ) → ScanIs s
 """
 # A page that must be believed, each definition for another reason, and one that need not be.
 LOAD, ROWS, LOAD_CODE = 'crates/load/specs/Load.antt', 'crates/load/specs/Code/Rows.antt', 'crates/load/src/lib.rt'
-LOAD_PAGE = """-- noRow is only named here.
-use Rattle·refusal.specs.Limits.{numberLimit as most}
+LOAD_PAGE = """-- no_row is only named here.
+use Rattle.refusal.specs.Limits.{number_limit as most}
 
-infix 50 _⊑_
-pub record _⊑_ (a b : ℕ) : Type 0 where
+infix 50 ◌⊑◌
+pub record ◌⊑◌ (a b : ℕ) : Type 0 where
   pub cross : first (min a most) ≡ b
 
 abbrev pub Kind : Type 1
@@ -136,17 +130,17 @@ pub data Load : Type 0 where
   none : Load
   some : ℕ → Load
 
-abbrev pub loadOf : Load → ℕ
-loadOf none = 0
-loadOf (some n) = n
+abbrev pub load_of : Load → ℕ
+load_of none = 0
+load_of (some n) = n
 """
-ROWS_PAGE = """use Rattle·load·specs.specs.Load.Load.{none}
+ROWS_PAGE = """use Rattle.load.specs.Load.Load.{none}
 
-unfoldable pub noRow : ℕ
-noRow = loadOf none
+unfoldable pub no_row : ℕ
+no_row = load_of none
 
 pub data Row : Type 0 where
-  rowAt : ℕ → Row
+  row_at : ℕ → Row
 """
 # Names every definition outside the promises and Code/, but the pages above.
 NAMED = 'crates/examples/specs/Named.antt'
@@ -178,15 +172,21 @@ match self.number {
 LISTS = {
     'answers': 'least', 'records': 'scan', 'planner': 'least refusal load answers inquiries hand_set planning', 'examples': 'planner', 'plan': 'least answers planner', 'console': 'libc',
 }
-VERDICT = 'logic=proved functions=2 sum=0 native=nat,char,string logic-built=trusted libraries-built=trusted\n'
+VERDICT = 'logic=proved functions=2 sum=0 native=nat,char,string logic-built=trusted libraries-built=trusted statements=trusted'
 
 
 def edit(breaks):
     return f'# A `task` line has one answer: {breaks} must break.\nfile: src/lib.rt\nold: a\nnew: b\n'
 
 
-def log(name, lines):
-    return lines.replace('@', f'/a place/target/must-fail/{name}/')
+def block(name, verdict=VERDICT):
+    """What rt ci prints of a crate that it proves."""
+    return f'== {name}\nfn {name}::a: proved\n{verdict}\nrt: {name} proved\n'
+
+
+def kept(name):
+    """What it prints of one that an earlier run proved."""
+    return f'rt: {name} is kept: an earlier run on this machine proved the same files over the same libraries\n'
 
 
 def request(name, landed='Not landed.'):
@@ -197,37 +197,37 @@ def request(name, landed='Not landed.'):
 
 def right_tree():
     """The files of a tree without a fault, by path."""
+    said = {'least/down': DOWN_SAID, 'least/step': STEP_SAID}
     rows = [f'at "{letter}" (refuses [] {row} 1)\n' for letter, count in check.ROWS.items() for row in range(count)]
     files = {
         'crates/least/src/lib.rt': LEAST,
-        'crates/least/specs/Round.antt': 'pub ceil_div : ℕ → ℕ\n',
+        'crates/least/specs/Round.antt': 'pub ceil_of : ℕ → ℕ\n',
+        'crates/least/proofs/Round.antt': 'pub ceil_least : Least ceil_of\n\nceil_covers : Covers ceil_of\n',
         'crates/least/must-fail/down.edit': edit('law `ceil_least`, so `ceil_covers`,'),
-        'target/must-fail/least/down/.log': log('least/down', DOWN_LOG),
         'crates/least/must-fail/step.edit': edit('`Frac::next/returns` and `inner`, so `ceil_div`,'),
-        'target/must-fail/least/step/.log': log('least/step', STEP_LOG),
         'crates/planner/src/lib.rt': 'pub use answers::Supplied;\npub use least::Frac;\n',
         'crates/examples/src/lib.rt': '// Nothing.\n',
-        'crates/examples/specs/Files.antt': 'file_a = bytes "part\\tcard\\t20\\nend\\n"\nlistingA = bytes "load\\tcard\\n"\n',
+        'crates/examples/specs/Files.antt': 'file_a = bytes "part\\tcard\\t20\\nend\\n"\nlisting_a = bytes "load\\tcard\\n"\n',
         'crates/examples/specs/Table.antt': 'abbrev pub table : List Example\ntable =\n    ' + '    ∷ '.join(rows) + '    ∷ []\n\ninfixr 60 _and_\n',
         'crates/answers/src/lib.rt': 'use least::Frac;\n\npub struct Supplied {\n    pub ticks: Frac,\n}\n',
-        'crates/plan/src/main.rt': 'use planner::Supplied;\n\nfn main() {\n    planner::plan(1);\n}\n',
+        'crates/plan/src/main.rt': 'use planner::{Span, Supplied};\n\nfn main() {\n    planner::plan(1);\n}\n',
         'README.md': 'A file:\n\npart\tcard\t20\nend\n\nits plan:\n\nload\tcard\n\n' + ''.join(f'| {number} | 0 | no {number} | write it |\n' for number in interface.NUMBERS),
         DEMAND_1: DEMAND,
         SCAN: SCANNED,
         SCAN_CODE: 'let mut i = at;\nwhile i < s.len() {\n    let b = s[i];\n    if b == 10 {\n        return Scanned { good: true, end: i };\n    }\n    i += 1;\n}\n',
         CURSOR: 'let l = scan::line_at(s, at);\n',
         LOAD: LOAD_PAGE,
-        LOAD_CODE: 'ghost use Rattle·load·specs.specs.Load.{_⊑_};\n',
+        LOAD_CODE: 'ghost use Rattle.load.specs.Load.{◌⊑◌};\n',
         ROWS: ROWS_PAGE,
         'crates/examples/specs/Code/Spare.antt': 'abbrev pub spare : ℕ\nspare = 0\n',
-        LIMIT: 'abbrev pub number_limit : ℕ\nnumberLimit = 1000000\nfileLimit = 32768\nabbrev pub kept_limit : ℕ\nkeptLimit = task_limit\nabbrev pub cycle : ℕ\ncycle = 720\n',
+        LIMIT: 'abbrev pub number_limit : ℕ\nnumber_limit = 1000000\nfile_limit = 32768\nabbrev pub kept_limit : ℕ\nkept_limit = task_limit\nabbrev pub cycle : ℕ\ncycle = 720\n',
         LIMIT_CODE: 'pub const NUMBER_LIMIT: u64 = 1000000;\npub const FILE_LIMIT: usize = 32768;\npub const TASK_LIMIT: usize = 15;\npub const KEPT_LIMIT: usize = TASK_LIMIT;\npub const ROW_LIMIT: usize = 14;\npub const CYCLE: usize = 720;\n',
         'crates/answers/specs/Answers.antt': HANDED,
         'crates/answers/specs/Choice.antt': 'pub record Choice : Type 0 where\n  pub rows : List Row\n',
-        'crates/examples/specs/WrongPlanners.antt': 'use Rattle·planner.specs.Demand1.{Demand1, Demand3}\nabbrev pub ShutOut : Type 0\nShutOut = Demand3 → ⊥\n',
+        'crates/examples/specs/WrongPlanners.antt': 'use Rattle.planner.specs.Demand1.{Demand1, Demand3}\nabbrev pub ShutOut : Type 0\nShutOut = Demand3 → ⊥\n',
         'docs/PAPER-01.md': '## Scope\n\n- I1. Times are whole ticks.\n- F12. A name.\n- D1. Demand 1: Whoever asks gets an answer. A refusal writes nothing.\n',
         'docs/PAPER-02.md': '# Paper 02\n' + ''.join(request(name, LANDED if name == 'M-102' else 'Not landed.') for name in papers.SENTENCES),
-        'docs/TRACE.md': TRACE + ''.join(f'| {mark} | `least ceil_div` | – | – |\n' for name in (papers.ALL, 'M-102') for mark in papers.wanted_marks(name)),
+        'docs/TRACE.md': TRACE + ''.join(f'| {mark} | `least ceil_of` | – | – |\n' for name in (papers.ALL, 'M-102') for mark in papers.wanted_marks(name)),
         'docs/landings/base-1.md': '# Base 1\n',
         'docs/GUIDE.md': 'A file:\n\n```\npart\tp\t9\nend\n```\n\n```\nload\tp\n```\n',
         'crates/cases/data/m103-poster': 'part\tp\t9\nend\n',
@@ -247,7 +247,7 @@ def right_tree():
     for document, pages in statements.PAGES.items():
         for page in [*([DEMAND_1] if document == statements.DEMANDS else []), *pages, *statements.NAMED[document]]:
             files.setdefault(page, f'abbrev pub word : Type 0\nword = {page.split("/")[1]}\n')
-            text = files[page].replace('pub planOf : List ℕ → ℕ\n', '').replace('→\n      Listing', '→ Listing')
+            text = files[page].replace('pub plan_of : List ℕ → ℕ\n', '').replace('→\n      Listing', '→ Listing')
             files[document] += f'\n`{page}`\n\n```\n{text}```\n'
     for crate, name, says in check.THEOREMS:
         path = f'crates/{crate}/proofs/Theorems.antt'
@@ -255,12 +255,12 @@ def right_tree():
     for name in sorted(check.OPERATIONS):
         crate, fn = name.split('::')
         path = f'crates/{crate}/src/lib.rt'
-        head = '#[no_mangle]\npub extern "C" fn' if crate == 'planner_c' else 'pub fn'
-        says = 'r ⊑ a' if name == 'load::weigh' else 'r ≡ a'
-        files[path] = files.get(path, '') + f'{head} {fn}(a: u64) -> u64\n    ensures {{ λ r. ⌜ {says} ⌝ }}\n{{\n    a\n}}\n'
+        head = '#[unsafe(no_mangle)]\npub extern "C" fn' if crate == 'planner_c' else 'pub fn'
+        says = 'result ⊑ a' if name == 'load::weigh' else 'result ≡ a'
+        files[path] = files.get(path, '') + f'{head} {fn}(a: u64) -> u64\n    ensures {{ {says} }}\n{{\n    a\n}}\n'
         for label in (f'{fn}_low', f'{fn}_high'):
             files[f'crates/{crate}/must-fail/{label}.edit'] = edit(f'`{fn}`')
-            files[f'target/must-fail/{crate}/{label}/.log'] = log(f'{crate}/{label}', f'@proofs/{fn}/Proof.antt:1:2: error: `returns`: the two types differ\n')
+            said[f'{crate}/{label}'] = f'./proofs/{fn}/Answers.antt:1:2: error: `returns`: the two types differ'
         if crate == 'planner_c':
             files[interface.HEADER] += f'answer {fn}(const uint8_t *file);\n'
             files[interface.RAW] += f'    pub fn {fn}(file: *const u8);\n'
@@ -270,13 +270,14 @@ def right_tree():
     files['crates/console/must-fail/print_low.edit'] = edit('`print`').replace('new: b', 'new: libc::b')
     others = [path for path in files if '/specs/' in path and path not in (LOAD, ROWS) and path.split('/')[1] not in believed.PROMISING]
     named = [(path, one.name) for path in others for one in believed.definitions(path, files[path])]
-    files[NAMED] = 'use Rattle·load.specs.Load.{loadOf}\nuse Rattle·load.specs.Load.Load.{some as few}\n' + ''.join(
-        f'use Rattle·{path.split("/")[1]}.specs.{Path(path).stem}.{{{name} as name{at}}}\n' for at, (path, name) in enumerate(named))
-    files[NAMED] += '\nabbrev pub every : Type 0\nevery = few loadOf' + ''.join(f' name{at}' for at in range(len(named))) + '\n'
+    files[NAMED] = 'use Rattle.load.specs.Load.{load_of}\nuse Rattle.load.specs.Load.Load.{some as few}\n' + ''.join(
+        f'use Rattle.{path.split("/")[1]}.specs.{Path(path).stem}.{{{name} as name{at}}}\n' for at, (path, name) in enumerate(named))
+    files[NAMED] += '\nabbrev pub every : Type 0\nevery = few load_of' + ''.join(f' name{at}' for at in range(len(named))) + '\n'
     names = sorted({path.split('/')[1] for path in files if path.startswith('crates/')})
     files['crates.txt'] = '# all\n' + ''.join(f'{name}: {LISTS.get(name, "")}\n' for name in names)
-    for name in names:
-        files[f'target/log/{name}.out'] = 'library std\n' + (VERDICT if name != 'plan' else VERDICT.replace('sum', 'axioms=9 sum'))
+    files[LOG] = ''.join(kept(name) if name == 'scan' else block(name, VERDICT if name != 'plan' else VERDICT.replace('sum', 'axioms=9 sum')) for name in names)
+    files[LOG] += ''.join(f'rt: must-fail {name}.edit: refused, as it must be: {error}\n' for name, error in said.items())
+    files[LOG] += f'rt: ok; handles allowed: none; must-fail edits: {len(said)} refused; done in this run: 9 of the 9 proofs\n9 passed, 0 failed\n'
     return files
 
 
@@ -284,34 +285,38 @@ def right_tree():
 # removed; something in place of nothing: it stands at the end, or is a file that was not there).
 PAPER_2, PARTS = 'docs/PAPER-02.md', papers.sections(NOTE)
 ITEMS = [(heading, *line.partition(':')[::2]) for heading, text in PARTS for line in text.splitlines() if line.startswith('- ')]
-CLAUSE = '    ensures result { λ r. ⌜ r ≡ ceil_div t period ⌝ }'
-LOG, DOWN, STEP = 'target/must-fail/planning/plan_low/.log', 'target/must-fail/least/down/.log', 'target/must-fail/least/step/.log'
+CLAUSE = '    ensures rounded { result ≡ ceil_of t period }'
+PLAN_LOW = 'planning/plan_low.edit: refused, as it must be: ./proofs/plan/Answers.antt:1:2: error: `returns`: the two types differ\n'
 SLIPS = [
     (check.check_contracts, 'least::anything: a public function without', 'crates/least/src/lib.rt', '', BARE),
     (check.check_contracts, 'least::anything: a public function without', 'crates/least/src/lib.rt', '', 'pub fn anything(a: u64) -> u64 { a / 2 }\n'),
     (check.check_contracts, 'least::anything: a public function without', 'crates/least/src/lib.rt', '#[inline]', BARE + '\n#[inline]'),
     (check.check_contracts, 'least::anything: a public function without', 'crates/least/src/lib.rt', '', '#[inline]\npub fn anything(\n    a: u64,\n) -> u64 {\n    a / 2\n}\n'),
-    (check.check_contracts, 'least::ceil_div: a public function without', 'crates/least/src/lib.rt', '    ensures result {', '    // ensures result {'),
+    (check.check_contracts, 'least::ceil_div: a public function without', 'crates/least/src/lib.rt', '    ensures rounded {', '    // ensures rounded {'),
     (check.check_contracts, 'least::next: a public function without', 'crates/least/src/lib.rt', '        ensures {', '        requires {'),
     (check.check_contracts, 'planner_c::planner_half: a public function without', 'crates/planner_c/src/lib.rt', '', HALF),
     (check.check_contracts, 'planner_c::planner_half: an operation that .ci/check.py does not name', 'crates/planner_c/src/lib.rt', '', HALF),
-    (check.check_contracts, 'console::print: an operation with a requires', 'crates/console/src/lib.rt', '\n    ensures', '\n    requires { ⌜ a < 2 ⌝ }\n    ensures'),
-    (check.check_contracts, 'console::print: an operation with a requires', 'crates/console/src/lib.rt', '}\n{\n', '}\n    requires small { ⌜ a < 2 ⌝ }\n{\n'),
+    (check.check_contracts, 'console::print: an operation with a requires', 'crates/console/src/lib.rt', '\n    ensures', '\n    requires { a < 2 }\n    ensures'),
+    (check.check_contracts, 'console::print: an operation with a requires', 'crates/console/src/lib.rt', '}\n{\n', '}\n    requires small { a < 2 }\n{\n'),
     (check.check_contracts, 'console::print: an operation whose signature was not found', 'crates/console/src/lib.rt', 'fn print(', 'fn printed('),
     (check.check_contracts, 'planning::plan: an operation whose signature was not found', 'crates/planning/src/lib.rt', 'pub fn plan(', 'fn plan('),
     (check.check_contracts, 'planning::plan: named by .ci/check.py, but no operation', 'crates/planner/src/lib.rt', 'pub use planning::plan;\n', ''),
-    (check.check_contracts, 'planner: `pub use planning::{plan, half}`', 'crates/planner/src/lib.rt', 'planning::plan;', 'planning::{plan, half};'),
+    (check.check_contracts, 'planning::half: an operation that .ci/check.py does not name', 'crates/planner/src/lib.rt', 'planning::plan;', 'planning::{plan, half};'),
+    (check.check_contracts, 'planning::half: an operation that .ci/check.py does not name', 'crates/planner/src/lib.rt', 'planning::plan;', 'planning::{\n    half,\n    plan,\n};'),
+    *((check.check_contracts, f'planner: `pub use planning::{form}` is not of the form crate::name', 'crates/planner/src/lib.rt', 'planning::plan;', f'planning::{form};') for form in [
+        '*', 'plan as half', '{plan as half}', '{more::half, plan}', '{more::{half}, plan}', 'more::half',
+    ]),
     (check.check_contracts, 'least::ceil_div: an operation that .ci/check.py does not name', 'crates/planner/src/lib.rt', '', 'pub use least::ceil_div;\n'),
     (check.check_contracts, 'least::ceil_div: a public function without', 'crates/least/src/lib.rt', CLAUSE, f'    /* {CLAUSE} */'),
     (check.check_contracts, 'least::ceil_div: a public function without', 'crates/least/src/lib.rt', CLAUSE, f'    /* /* both */\n{CLAUSE} */'),
     (check.check_contracts, 'least::anything: a public function without', 'crates/least/src/lib.rt', '', f'const OPEN: &str = "/*";\n{BARE}'),
-    (check.check_contracts, 'least::ceil_div: an ensures that says nothing', 'crates/least/src/lib.rt', 'r ≡ ceil_div t period', 'Unit'),
-    (check.check_contracts, 'least::ceil_div: an ensures that says nothing', 'crates/least/src/lib.rt', 'r ≡ ceil_div t period', 'ceil_div t period ≡ ceil_div t period'),
-    (check.check_contracts, 'least::ceil_div: an ensures that says nothing', 'crates/least/src/lib.rt', '⌜ r ≡ ceil_div t period ⌝', '⊤'),
-    (check.check_contracts, 'console::print: an ensures that says nothing', 'crates/console/src/lib.rt', '⌜ r ≡ a ⌝', '⌜ (r ≡ r) ⌝'),
-    (check.check_names, 'the crate least declares no ceil_div', 'crates/least/specs/Round.antt', 'pub ceil_div : ℕ → ℕ\n', '{-\npub ceil_div : ℕ → ℕ\n{- both -} -}\n'),
-    (check.check_names, 'the crate least declares no floorDiv', 'docs/TRACE.md', '| I1 | `least ceil_div`', '| I1 | `least floorDiv`'),
-    (check.check_names, 'the crate least declares no ceil_div', 'crates/least/specs/Round.antt', 'pub ceil_div', '-- pub ceil_div'),
+    (check.check_contracts, 'least::ceil_div: an ensures that says nothing', 'crates/least/src/lib.rt', 'result ≡ ceil_of t period', 'Unit'),
+    (check.check_contracts, 'least::ceil_div: an ensures that says nothing', 'crates/least/src/lib.rt', 'result ≡ ceil_of t period', 'ceil_of t period ≡ ceil_of t period'),
+    (check.check_contracts, 'least::ceil_div: an ensures that says nothing', 'crates/least/src/lib.rt', '{ result ≡ ceil_of t period }', '{ (⊤) }'),
+    (check.check_contracts, 'console::print: an ensures that says nothing', 'crates/console/src/lib.rt', '{ result ≡ a }', '{ (result ≡ result) }'),
+    (check.check_names, 'the crate least declares no ceil_of', 'crates/least/specs/Round.antt', 'pub ceil_of : ℕ → ℕ\n', '{-\npub ceil_of : ℕ → ℕ\n{- both -} -}\n'),
+    (check.check_names, 'the crate least declares no floor_div', 'docs/TRACE.md', '| I1 | `least ceil_of`', '| I1 | `least floor_div`'),
+    (check.check_names, 'the crate least declares no ceil_of', 'crates/least/specs/Round.antt', 'pub ceil_of', '-- pub ceil_of'),
     (check.check_names, 'the crate least declares no must-fail/down', 'crates/least/must-fail/down.edit', None, None),
     (check.check_names, 'no file docs/PAPER-03.md', 'docs/TRACE.md', 'PAPER-01', 'PAPER-03'),
     (check.check_names, 'neither a file nor', 'docs/TRACE.md', '`planning plan`', '`nowhere plan`'),
@@ -321,27 +326,29 @@ SLIPS = [
     (check.check_crates, 'crates.txt: records lists scan and does not use it', CURSOR, 'scan::line_at', 'line_at'),
     (check.check_crates, 'crates.txt: records lists scan and does not use it', CURSOR, 'let l', '// let l'),
     (check.check_crates, 'crates.txt: records lists scan and does not use it', CURSOR, 'scan::line_at', 'Cursor::scan::line_at'),
-    (check.check_crates, 'crates.txt: examples lists planner and does not use it', 'crates/examples/specs/WrongPlanners.antt', 'use Rattle·planner.', 'use Rattle·planner_c.'),
-    (check.check_crates, 'crates.txt: examples lists planner and does not use it', 'crates/examples/specs/WrongPlanners.antt', 'use Rattle·planner.', '-- use Rattle·planner.'),
+    (check.check_crates, 'crates.txt: examples lists planner and does not use it', 'crates/examples/specs/WrongPlanners.antt', 'use Rattle.planner.', 'use Rattle.planner_c.'),
+    (check.check_crates, 'crates.txt: examples lists planner and does not use it', 'crates/examples/specs/WrongPlanners.antt', 'use Rattle.planner.', '-- use Rattle.planner.'),
     (check.check_crates, 'crates.txt: console lists libc and does not use it', 'crates/console/must-fail/print_low.edit', 'new: libc::b', 'old: libc::b'),
     (check.check_crates, 'crates.txt: plan lists least and does not use it', 'crates/answers/src/lib.rt', 'ticks: Frac', 'ticks: u64'),
     (check.check_crates, 'crates.txt: plan lists least and does not use it', 'crates/answers/src/lib.rt', 'pub struct Supplied {\n    pub ticks: Frac,', 'pub enum Supplied {\n    Frac(u64),'),
     (check.check_crates, 'crates.txt: plan lists planning and does not use it', 'crates.txt', 'least answers planner\n', 'least answers planning planner\n'),
-    (check.check_crates, 'crates.txt: plan lists least and does not use it', 'crates/plan/src/main.rt', 'planner::Supplied', 'planner::plan'),
+    (check.check_crates, 'crates.txt: plan lists least and does not use it', 'crates/plan/src/main.rt', '{Span, Supplied}', '{Span, plan}'),
     (check.check_crates, 'crates.txt: plan lists answers and does not use it', 'crates/planner/src/lib.rt', 'pub use answers::Supplied;\n', ''),
+    (check.check_crates, 'crates.txt: plan lists answers and does not use it', 'crates/planner/src/lib.rt', 'pub use answers::Supplied;\n', 'pub use answers::{Supply, supplied};\n'),
+    (check.check_crates, 'crates.txt: plan lists answers and does not use it', 'crates/plan/src/main.rt', '{Span, Supplied}', '{Span, Supply}'),
     (check.check_trace, 'sentence F12 has no entry', 'docs/TRACE.md', '| F12 |', '| F13 |'),
     (check.check_trace, 'the entry F13 is of no sentence', 'docs/TRACE.md', '| F12 |', '| F13 |'),
-    (check.check_trace, 'the entry of sentence I1 names nothing', 'docs/TRACE.md', '`least ceil_div` | – | `least must-fail/down`', '– | – | –'),
+    (check.check_trace, 'the entry of sentence I1 names nothing', 'docs/TRACE.md', '`least ceil_of` | – | `least must-fail/down`', '– | – | –'),
     (check.check_trace, 'no sentence with a mark', 'docs/PAPER-01.md', '- I1. Times are whole ticks.\n- F12. A name.\n- D1. ', 'Times.\n'),
     (check.check_trace, 'two sentences have the mark I1', 'docs/PAPER-01.md', '- F12. ', '- I1. '),
     (check.check_trace, 'two sentences have the mark Ma', 'docs/PAPER-01.md', '- F12. ', '- Ma. '),
     (check.check_trace, 'sentence I1 has two entries', 'docs/TRACE.md', '', '| I1 | – | – | – |\n'),
     (check.check_trace, 'sentence Mb has no entry', 'docs/TRACE.md', '| Mb |', '| Md |'),
-    (check.check_trace, 'sentence M102e has no entry', 'docs/TRACE.md', '| M102e | `least ceil_div` | – | – |\n', ''),
-    (check.check_trace, 'the entry of sentence M102c names nothing', 'docs/TRACE.md', '| M102c | `least ceil_div` |', '| M102c | – |'),
-    (check.check_trace, 'the entry of sentence M102c names nothing', 'docs/TRACE.md', '| M102c | `least ceil_div` |', '| M102c | see below |'),
-    (check.check_trace, 'the entry M102f is of no sentence', 'docs/TRACE.md', '', '| M102f | `least ceil_div` | – | – |\n'),
-    (check.check_trace, 'the entry M103a is of a request that has not landed', 'docs/TRACE.md', '', '| M103a | `least ceil_div` | – | – |\n'),
+    (check.check_trace, 'sentence M102e has no entry', 'docs/TRACE.md', '| M102e | `least ceil_of` | – | – |\n', ''),
+    (check.check_trace, 'the entry of sentence M102c names nothing', 'docs/TRACE.md', '| M102c | `least ceil_of` |', '| M102c | – |'),
+    (check.check_trace, 'the entry of sentence M102c names nothing', 'docs/TRACE.md', '| M102c | `least ceil_of` |', '| M102c | see below |'),
+    (check.check_trace, 'the entry M102f is of no sentence', 'docs/TRACE.md', '', '| M102f | `least ceil_of` | – | – |\n'),
+    (check.check_trace, 'the entry M103a is of a request that has not landed', 'docs/TRACE.md', '', '| M103a | `least ceil_of` | – | – |\n'),
     (check.check_trace, 'the entry M102a is of a request that has not landed', M_102, None, None),
     (check.check_trace, 'sentence M100a has no entry', 'docs/landings/m-100.md', '', NOTE),
     (check.check_words, 'the words of a section are others: no line `', PAPER_2, '- M103c. A sentence.', '- M103c. A word.'),
@@ -401,38 +408,52 @@ SLIPS = [
     (check.check_statements, f'{SCAN}: EveryLineScanned is not so in docs/REQUESTS.md', 'docs/REQUESTS.md', None, None),
     (check.check_uses, f'{DEMAND_1}: HandedOver is not that of crates/answers/specs/Answers.antt', DEMAND_1, 'answers.specs.Answers', 'answers.specs.Weak'),
     (check.check_uses, f'WrongPlanners.antt: Demand3 is not that of {DEMAND_1}', 'crates/examples/specs/WrongPlanners.antt', 'Demand3}', 'Demand1 as Demand3}'),
-    (check.check_uses, f'Theorems.antt: Demand1 is not that of {DEMAND_1}', 'crates/planner/proofs/Theorems.antt', '', 'use Rattle·planner·specs.specs.Weak.Demand1\n'),
+    (check.check_uses, f'Theorems.antt: Demand1 is not that of {DEMAND_1}', 'crates/planner/proofs/Theorems.antt', '', 'use Rattle.planner.specs.Weak.Demand1\n'),
     (check.check_quotes, 'no demand has the words: A refusal writes little', 'docs/DEMANDS.md', 'writes nothing', 'writes little'),
     (check.check_quotes, 'of D1 is not quoted: 1: . A refusal writes nothing', 'docs/DEMANDS.md', '> A refusal writes nothing.\n', ''),
     (check.check_quotes, 'docs/REQUESTS.md: no landed request has the words: A word', 'docs/REQUESTS.md', '> A sentence', '> A word'),
     (check.check_quotes, 'docs/REQUESTS.md: of M102c is not quoted: A sentence.', 'docs/REQUESTS.md', '> A sentence', '> A word'),
     (check.check_quotes, 'docs/REQUESTS.md: no landed request has the words: A sentence', M_102, None, None),
     (check.check_quotes, 'docs/PAPER-01.md: no demand', 'docs/PAPER-01.md', '- D1. ', '- '),
-    (check.check_edits, 'planning/plan_low: no log', LOG, None, None),
+    (check.check_edits, 'planning/plan_low: no outcome of this must-fail edit', LOG, 'rt: must-fail ' + PLAN_LOW, ''),
+    (check.check_edits, 'planning/plan_low: no outcome of this must-fail edit', LOG, None, None),
+    (check.check_edits, 'planning/plan_more: no outcome of this must-fail edit', 'crates/planning/must-fail/plan_more.edit', '', edit('`plan`')),
+    *((check.check_edits, f'planning/plan_low: not refused by what it means: {said}', LOG, PLAN_LOW, f'planning/plan_low.edit: {said}\n') for said in [
+        'NOT REFUSED: the crate is still proved with this edit', "BAD EDIT: an 'old:' text is in src/lib.rt 0 times, and not once", 'NOT TRIED: its check was killed', 'refused, as it must be',
+        'refused, as it must be (only because a proof file names what the edit took away, so this says little of the contract: change a value and keep the names): ./proofs/plan/Answers.antt:1:2',
+        'refused, as it must be (only by a limit of the prover, which gave no verdict, so this says less of the contract: choose a change that it refuses sooner): ./proofs/plan/Answers.antt:1:2',
+    ]),
+    (check.check_edits, 'target/ci.log: must-fail edits: none, and there are ', LOG, None, None),
+    (check.check_edits, 'target/ci.log: must-fail edits: none, and there are ', LOG, 'rt: ok; handles', 'rt: FAILED: planning handles'),
+    (check.check_edits, ' refused, 1 bad, and there are ', LOG, ' refused; done', ' refused, 1 bad; done'),
+    (check.check_edits, ' refused, 1 of them only by a limit, and there are ', LOG, ' refused; done', ' refused, 1 of them only by a limit; done'),
+    (check.check_edits, 'target/ci.log: must-fail edits: 3', LOG, 'must-fail edits: ', 'must-fail edits: 3'),
     (check.check_edits, 'planning/plan_low: its comment does not say', 'crates/planning/must-fail/plan_low.edit', 'must break', 'breaks'),
     (check.check_edits, 'planning/plan_low: its comment does not say', 'crates/planning/must-fail/plan_low.edit', '`plan`', 'the plan'),
     (check.check_edits, 'planning/plan_low: its comment does not say', 'crates/planning/must-fail/plan_low.edit', '`plan` must', '`print_plan` or `plan` must'),
-    (check.check_edits, 'planning/plan_low: print_plan does not break', 'crates/planning/must-fail/plan_low.edit', '`plan` must', '`print_plan` and law `plan` must'),
+    (check.check_edits, 'planning/plan_low: the crate declares no print_plan', 'crates/planning/must-fail/plan_low.edit', '`plan` must', '`print_plan` and law `plan` must'),
+    (check.check_edits, 'planning/plan_low: the crate declares no print_plan', 'crates/planning/must-fail/plan_low.edit', '`plan` must', '`plan`, so `print_plan`, must'),
+    (check.check_edits, 'planning/plan_low: the crate declares no print_plan', 'crates/planning/must-fail/plan_low.edit', '`plan` must', '`plan` and `print_plan/returns` must'),
     (check.check_edits, 'planning/plan_low: it changes a proof', 'crates/planning/must-fail/plan_low.edit', 'file: src/lib.rt', 'file: proofs/Plan.antt'),
-    (check.check_edits, 'planning/plan_low: print_plan does not break', 'crates/planning/must-fail/plan_low.edit', '`plan`', '`print_plan`'),
-    (check.check_edits, 'planning/plan_low: plan does not break', LOG, 'proofs/plan/', 'proofs/print_plan/'),
-    (check.check_edits, 'planning/plan_low: plan does not break', LOG, 'error', 'note'),
-    (check.check_edits, 'planning/plan_low: plan breaks for a vacuous reason', LOG, 'the two types differ', f'`law` {FOLLOWS}'),
-    (check.check_edits, 'planning/plan_low: plan breaks for a vacuous reason', LOG, 'the two types differ', 'module `Tie` has no `Need-a` that can be named from here'),
-    (check.check_edits, 'planning/plan_low: refused for a vacuous reason', LOG, 'the two types differ', 'record `Lts` has no field `args`'),
-    (check.check_edits, 'planning/plan_low: refused for a vacuous reason', LOG, 'the two types differ', SHAPE),
-    (check.check_edits, 'planning/plan_low: refused before any proof: specs/', LOG, 'proofs/plan/Proof', 'specs/Plan'),
-    (check.check_edits, 'planning/plan_low: refused before any proof: src/', LOG, '', log('planning/plan_low', '@src/lib.rt:1:2: error[mismatched-types]: expected `u64`\n')),
-    (check.check_edits, 'least/down: ceil_least does not break', DOWN, 'error: `ceil_least`', 'error: `ceil-most`'),
-    (check.check_edits, 'least/down: ceil_least does not break', DOWN, 'proofs/Round.antt:1', 'proofs/ceil_div/Proof.antt:1'),
-    (check.check_edits, 'least/down: ceil_least breaks for a vacuous reason', DOWN, '`omega`: the goal fails', f'`ceil-none` {FOLLOWS}'),
-    (check.check_edits, 'least/down: ceil_covers does not break', DOWN, 'error: `ceil_covers`', 'note: `ceil_covers`'),
-    (check.check_edits, 'least/step: Frac::next/returns does not break', STEP, 'Frac/next', 'Frac/new'),
-    (check.check_edits, 'least/step: Frac::next/returns does not break', STEP, 'error: `returns`: `search`', 'error: `returns_2`: `search`'),
-    (check.check_edits, 'least/step: Frac::next/returns breaks for a vacuous reason', STEP, '`search`: no proof of `a`', '`cc` met a bound of its own'),
-    (check.check_edits, 'least/step: inner does not break', STEP, 'least::inner: no proof', 'least::outer: no proof'),
-    (check.check_edits, 'least/step: inner does not break', STEP, '`search` does not close `returns`, `returns_2`', 'it has a loop'),
-    (check.check_edits, 'least/step: ceil_div does not break', STEP, 'ceil_div: not proved; it calls `least::inner`, which is not proved', 'ceil_div: proved'),
+    (check.check_edits, 'planning/plan_low: chart must break, and first breaks returns in proofs/plan/Answers.antt', 'crates/planning/must-fail/plan_low.edit', '`plan`', '`chart`'),
+    (check.check_edits, 'planning/plan_low: chart must break, and first breaks returns in proofs/plan/Answers.antt', 'crates/planning/must-fail/plan_low.edit', '`plan` must', '`chart`, so `plan`, must'),
+    (check.check_edits, 'planning/plan_low: plan/returns-then-a must break, and first breaks returns in', 'crates/planning/must-fail/plan_low.edit', '`plan`', '`plan/returns-then-a`'),
+    (check.check_edits, 'planning/plan_low: plan must break, and first breaks returns in proofs/print_plan/', LOG, PLAN_LOW, PLAN_LOW.replace('plan/Answers', 'print_plan/Answers')),
+    (check.check_edits, 'planning/plan_low: refused before any proof', LOG, PLAN_LOW, PLAN_LOW.replace('error', 'note')),
+    *((check.check_edits, 'planning/plan_low: refused for a vacuous reason', LOG, PLAN_LOW, PLAN_LOW.replace('the two types differ', said)) for said in [
+        f'`law` {FOLLOWS}', 'module `Goals` has no `returns-then-a`', 'module `Goals` has no name that can be named from here', 'record `Lts` has no field `args`', '`plan_of` is not in scope',
+        '`cc` met a bound of its own', '`plan` calls `print_plan`, which is not proved',
+    ]),
+    (check.check_edits, 'planning/plan_low: refused before any proof: specs/', LOG, PLAN_LOW, PLAN_LOW.replace('proofs/plan/Answers', 'specs/Plan')),
+    (check.check_edits, 'planning/plan_low: refused before any proof: src/', LOG, PLAN_LOW, 'planning/plan_low.edit: refused, as it must be: src/lib.rt:1:2: error[mismatched-types]: expected `u64`\n'),
+    (check.check_edits, 'least/down: ceil_least must break, and first breaks ceil_most in proofs/Round.antt', LOG, 'error: `ceil_least`', 'error: `ceil_most`'),
+    (check.check_edits, 'least/down: ceil_least must break, and first breaks ceil_least in proofs/ceil_div/Answers.antt', LOG, 'proofs/Round.antt:1', 'proofs/ceil_div/Answers.antt:1'),
+    (check.check_edits, 'least/down: refused for a vacuous reason', LOG, '`omega`: the goal fails', f'`ceil_none` {FOLLOWS}'),
+    (check.check_edits, 'least/down: the crate declares no ceil_covers', 'crates/least/proofs/Round.antt', 'ceil_covers :', 'ceil_is :'),
+    (check.check_edits, 'least/step: Frac::next/returns and inner must break, and first breaks returns in proofs/ceil_div/', LOG, 'src/lib.rt:25:9', 'src/lib.rt:11:5'),
+    (check.check_edits, 'least/step: Frac::next/returns and inner must break, and first breaks returns-then-a in proofs/Frac/next/', LOG, '(`returns`)', '(`returns-then-a`)'),
+    (check.check_edits, 'least/step: refused before any proof: src/more.rt', LOG, 'src/lib.rt:25:9', 'src/more.rt:25:9'),
+    (check.check_edits, 'least/step: refused before any proof: src/lib.rt', LOG, 'src/lib.rt:25:9', 'src/lib.rt:1:1'),
     (check.check_shut_outs, 'least: a library with fewer than two', 'crates/least/must-fail/down.edit', None, None),
     (check.check_shut_outs, 'planning::plan: an operation that fewer than two', 'crates/planning/must-fail/plan_low.edit', None, None),
     (check.check_shut_outs, 'console::print: an operation that fewer than two', 'crates/console/must-fail/print_low.edit', '`print`', '`write`'),
@@ -481,16 +502,16 @@ SLIPS = [
     (check.check_one_limit, 'PLANNER_CYCLE is 719, and the limit CYCLE of the code 720', interface.HEADER, '720', '719'),
     (check.check_one_limit, 'PLANNER_MOST_BYTES is 32767, and the limit FILE_LIMIT of the code 32768', interface.HEADER, 'BYTES = 32768', 'BYTES = 32767'),
     *((check.check_believed, f'{ROWS}: {name} stands in Code/, and must be believed: {who} names it', path, old, new) for name, who, path, old, new in [
-        ('noRow', 'load::weigh', LOAD_CODE, 'Load.{_⊑_}', 'Code.Rows.{noRow as _⊑_}'),
-        ('noRow', 'every_line_scanned', 'crates/scan/proofs/Theorems.antt', '', 'use Rattle·load.specs.Code.Rows.{noRow as lineAt}\n'),
-        ('noRow', f'loadOf of {LOAD}', LOAD, 'loadOf none = 0\n', 'loadOf none = noRow\nuse Rattle·load·specs.specs.Code.Rows.{noRow}\n'),
-        ('noRow', f'_⊑_ of {LOAD}', LOAD, 'refusal.specs.Limits.{number_limit as', 'load·specs.specs.Code.Rows.{noRow as'),
-        ('Row', f'every of {NAMED}', NAMED, 'Load.Load.{some as', 'Code.Rows.Row.{rowAt as'),
-        ('Row', f'loadOf of {LOAD}', LOAD, 'loadOf none = 0\n', 'loadOf none = Row.rowAt\nuse Rattle·load·specs.specs.Code.Rows.{Row}\n'),
-        ('noRow', f'loadOf of {LOAD}', LOAD, 'loadOf none = 0\n', 'loadOf none = λ x.noRow\nuse Rattle·load·specs.specs.Code.Rows.{noRow}\n'),
-        ('noRow', f'loadOf of {LOAD}', LOAD, 'loadOf none = 0\n', 'loadOf none = ∣ 0 ∣\nuse Rattle·load·specs.specs.Code.Rows.{noRow as ∣_∣}\n'),
-        ('noRow', f'first of {LOAD}', LOAD, 'module _ {A : Kind} where\n  abbrev pub first : A → A\n  first a = a\n',
-         'module _ {A : Kind noRow} where\n  module _ (b : A) where\n    abbrev pub first : A → A\n    first a = a\nuse Rattle·load·specs.specs.Code.Rows.{noRow}\n'),
+        ('no_row', 'load::weigh', LOAD_CODE, 'Load.{◌⊑◌}', 'Code.Rows.{no_row as ◌⊑◌}'),
+        ('no_row', 'every_line_scanned', 'crates/scan/proofs/Theorems.antt', '', 'use Rattle.load.specs.Code.Rows.{no_row as line_at}\n'),
+        ('no_row', f'load_of of {LOAD}', LOAD, 'load_of none = 0\n', 'load_of none = no_row\nuse Rattle.load.specs.Code.Rows.{no_row}\n'),
+        ('no_row', f'◌⊑◌ of {LOAD}', LOAD, 'refusal.specs.Limits.{number_limit as', 'load.specs.Code.Rows.{no_row as'),
+        ('Row', f'every of {NAMED}', NAMED, 'Load.Load.{some as', 'Code.Rows.Row.{row_at as'),
+        ('Row', f'load_of of {LOAD}', LOAD, 'load_of none = 0\n', 'load_of none = Row.row_at\nuse Rattle.load.specs.Code.Rows.{Row}\n'),
+        ('no_row', f'load_of of {LOAD}', LOAD, 'load_of none = 0\n', 'load_of none = λ x.no_row\nuse Rattle.load.specs.Code.Rows.{no_row}\n'),
+        ('no_row', f'load_of of {LOAD}', LOAD, 'load_of none = 0\n', 'load_of none = ∣ 0 ∣\nuse Rattle.load.specs.Code.Rows.{no_row as ∣◌∣}\n'),
+        ('no_row', f'first of {LOAD}', LOAD, 'module _ {A : Kind} where\n  abbrev pub first : A → A\n  first a = a\n',
+         'module _ {A : Kind no_row} where\n  module _ (b : A) where\n    abbrev pub first : A → A\n    first a = a\nuse Rattle.load.specs.Code.Rows.{no_row}\n'),
     ]),
     *((check.check_believed, f'{path}: {name} does not stand in Code/, and need not be believed', path, old, new) for name, path, old, new in [
         ('spare', LOAD, '', '\nabbrev pub spare : ℕ\nspare = 0\n'), ('Spare', LOAD, '', '\npub record Spare : Type 0 where\n  pub some : ℕ\n'),
@@ -498,25 +519,35 @@ SLIPS = [
         ('spare', LOAD, '  first a = a\n', '  first a = a\n\n  abbrev pub spare : A → A\n  spare a = a\n'),
         ('first', LOAD, 'first (min a most)', '{- first -} (min a most) -- first'),
     ]),
-    (check.check_believed, f'{LOAD}: _⊑_ does not stand in Code/', LOAD_CODE, 'r ⊑ a', 'r ≡ a'),
-    (check.check_believed, f'{LOAD}: loadOf does not stand in Code/', NAMED, 'few loadOf', 'few'),
-    (check.check_believed, f'{LOAD}: Load does not stand in Code/', NAMED, 'few loadOf', ''),
-    (check.check_believed, f'{LOAD}: Rattle·refusal.specs.Limits declares no lowLimit', LOAD, '{number_limit as', '{lowLimit as'),
-    (check.check_believed, f'{ROWS}: Rattle·load·specs.specs.Load.Load declares no few', ROWS, '{none}', '{few}'),
+    (check.check_believed, f'{LOAD}: ◌⊑◌ does not stand in Code/', LOAD_CODE, 'result ⊑ a', 'result ≡ a'),
+    (check.check_believed, f'{LOAD}: load_of does not stand in Code/', NAMED, 'few load_of', 'few'),
+    (check.check_believed, f'{LOAD}: Load does not stand in Code/', NAMED, 'few load_of', ''),
+    (check.check_believed, f'{LOAD}: Rattle.refusal.specs.Limits declares no low_limit', LOAD, '{number_limit as', '{low_limit as'),
+    (check.check_believed, f'{ROWS}: Rattle.load.specs.Load.Load declares no few', ROWS, '{none}', '{few}'),
     (check.check_believed, f'{LOAD}: number_limit is taken from a proof', LOAD, 'refusal.specs.Limits', 'refusal.proofs.Limits'),
-    (check.check_believed, f'{LOAD}: Rattle·load·specs.specs.Code.Rows.noRow stands with its whole path', LOAD, 'none = 0', 'none = Rattle·load·specs.specs.Code.Rows.noRow'),
-    (check.check_believed, f'{LOAD}: `use Rattle·load·specs.specs.Code.Rows as rows` cannot be read', LOAD, '', 'use Rattle·load·specs.specs.Code.Rows as rows\n'),
-    *((check.check_believed, f'{LOAD}: `use Rattle·load·specs.specs.Code.Rows.{{noRow}}` cannot be read', LOAD, '', line + '\n') for line in [
-        'use  Rattle·load·specs.specs.Code.Rows.{noRow}', '  use Rattle·load·specs.specs.Code.Rows.{noRow}', 'use Rattle·load·specs.specs.Code.Rows.{noRow} ',
+    (check.check_believed, f'{LOAD}: Rattle.load.specs.Code.Rows.no_row stands with its whole path', LOAD, 'none = 0', 'none = Rattle.load.specs.Code.Rows.no_row'),
+    (check.check_believed, f'{LOAD}: `use Rattle.load.specs.Code.Rows as rows` cannot be read', LOAD, '', 'use Rattle.load.specs.Code.Rows as rows\n'),
+    *((check.check_believed, f'{LOAD}: `use Rattle.load.specs.Code.Rows.{{no_row}}` cannot be read', LOAD, '', line + '\n') for line in [
+        'use  Rattle.load.specs.Code.Rows.{no_row}', '  use Rattle.load.specs.Code.Rows.{no_row}', 'use Rattle.load.specs.Code.Rows.{no_row} ',
     ]),
-    (check.check_believed, f'{LOAD_CODE}: `ghost use Rattle·load·specs.specs.Code.Rows;` cannot be read', LOAD_CODE, '', 'ghost use Rattle·load·specs.specs.Code.Rows;\n'),
+    (check.check_believed, f'{LOAD_CODE}: `ghost use Rattle.load.specs.Code.Rows;` cannot be read', LOAD_CODE, '', 'ghost use Rattle.load.specs.Code.Rows;\n'),
     *((check.check_believed, 'README.md: it must say once that ', 'README.md', old, new) for old, new in [
         (' definitions must be believed', '0 definitions must be believed'), (' of the\n', '0 of the\n'), (' must be believed', ' may be believed'), ('', '1 of the 2 definitions must be believed.\n'),
     ]),
-    (check.check_verdicts, 'planning: no verdict', 'target/log/planning.out', None, None),
-    (check.check_verdicts, 'planning: no verdict', 'target/log/planning.out', 'logic=proved', 'logic=not-proved'),
-    (check.check_verdicts, 'planning: the verdict names an assumption, axioms', 'target/log/planning.out', 'sum=0', 'axioms=1 sum=0'),
-    (check.check_verdicts, 'planning: the verdict names an assumption, cache', 'target/log/planning.out', 'sum=0', 'sum=0 cache=trusted'),
+    (check.check_verdicts, 'planning: no verdict', LOG, None, None),
+    (check.check_verdicts, 'planning: no verdict', LOG, block('planning'), ''),
+    (check.check_verdicts, 'planning: no verdict', LOG, block('planning'), block('planning', VERDICT.replace('=proved', '=not-proved'))),
+    (check.check_verdicts, 'planning: no verdict', LOG, block('planning'), block('planning').replace(VERDICT + '\n', '')),
+    (check.check_verdicts, 'planning: no verdict', LOG, 'rt: planning proved\n', 'rt: planning NOT PROVED\n'),
+    (check.check_verdicts, 'scan: no verdict', LOG, kept('scan'), ''),
+    (check.check_verdicts, 'scan: no verdict', LOG, kept('scan'), kept('scans')),
+    (check.check_verdicts, 'scan: crates/scan/proofs/Theorems.antt postulates', 'crates/scan/proofs/Theorems.antt', '', 'postulate pub line : Line\n'),
+    (check.check_verdicts, 'load: crates/load/specs/Load.antt postulates', LOAD, '', 'pub postulate line : Line\n'),
+    *((check.check_verdicts, f'planning: the verdict names an assumption, {word}', LOG, block('planning'), block('planning', VERDICT.replace('sum', f'{word}=1 sum'))) for word in [
+        'axioms', 'foreign', 'may-abort', 'may-wait', 'hides', 'bugs', 'incremental', 'cache',
+    ]),
+    (check.check_verdicts, 'target/ci.log: it must say once that no handle is allowed', LOG, 'handles allowed: none', 'handles allowed: Wait'),
+    (check.check_verdicts, 'target/ci.log: it must say once that no handle is allowed', LOG, 'rt: ok; ', 'rt: '),
     (check.check_tests, 'include/planner.h: planner_weigh is not declared', interface.HEADER, 'planner_weigh(', 'planner_weight('),
     (check.check_tests, 'rust/planner/src/raw.rs: planner_weigh is not declared', interface.RAW, 'planner_weigh(', 'planner_weight('),
     (check.check_tests, 'tests/src/library.rs: planner_name is not declared', 'tests/src/library.rs', '    raw::planner_name(', '    // raw::planner_name('),
@@ -596,7 +627,7 @@ class Checks(unittest.TestCase):
                 self.assertTrue(any(fault in said for said in faults), faults)
 
     def test_a_fault_fails_the_script(self):
-        with self.slip(LOG, None, None):
+        with self.slip(LOG, PLAN_LOW, PLAN_LOW.replace('the two types differ', 'record `Lts` has no field `args`')):
             self.assertEqual(self.script(), (1, 'own checks: 1 faults'))
 
     def test_every_check_is_run_and_has_a_slip(self):
@@ -613,7 +644,7 @@ echo "$asked" >>"$ASKED"
 [ "$asked" != "$FAILING" ]
 '''
 COMMANDS = [
-    'rt ci', 'rt fmt --check', 'python3 .ci/check_test.py', 'python3 .ci/check.py', 'build plan', 'build library',
+    'rt ci', 'python3 .ci/check_test.py', 'python3 .ci/check.py', 'build plan', 'build library',
     'cargo test --offline --quiet --features library --manifest-path tests/Cargo.toml', 'cargo test --offline --quiet --manifest-path rust/planner/Cargo.toml --target-dir target/rust',
     'integrators ', 'stack ', 'program ', 'wrapper ', 'install ', 'example_plans ',
 ]
@@ -623,13 +654,15 @@ ALL = 3 + len(COMMANDS[1:])
 
 class Gate(unittest.TestCase):
     def gate(self, ci, failing='', without='', tee=''):
-        """.ci/run where `rt ci` does as told, one command fails, one is not there, and tee is another: status, last line, commands."""
+        """.ci/run where `rt ci` does as told, one command fails, one is not there, and tee is another: status, last line, commands. What it leaves of rt ci for check.py is then in `left`."""
         with tempfile.TemporaryDirectory() as folder:
             top = Path(folder)
             for path in ('.ci/run', 'bin/rt', 'bin/python3', 'bin/cargo', 'scripts/build', 'tests/integrators', 'tests/stack', 'tests/program', 'tests/wrapper', 'tests/install', 'tests/example_plans'):
                 (top / path).parent.mkdir(parents=True, exist_ok=True)
                 (top / path).write_text((HERE / 'run').read_text() if path == '.ci/run' else FAKE)
                 (top / path).chmod(0o755)
+            (top / LOG).parent.mkdir()
+            (top / LOG).write_text('an earlier run\n3 passed, 0 failed\n')
             if without:
                 (top / without).unlink()
             if tee:
@@ -638,10 +671,17 @@ class Gate(unittest.TestCase):
             told = {**os.environ, 'PATH': f'{top}/bin:/usr/bin:/bin', 'ASKED': f'{top}/asked', 'CI': ci, 'FAILING': failing}
             run = subprocess.run([top / '.ci' / 'run'], env=told, capture_output=True, text=True)
             asked = (top / 'asked').read_text().splitlines() if (top / 'asked').exists() else []
+            self.left = (top / LOG).read_text()
             return run.returncode, run.stdout.splitlines()[-1], asked
 
     def test_all_passes(self):
-        self.assertEqual(self.gate('echo 3 passed, 0 failed'), (0, f'{ALL} passed, 0 failed', COMMANDS))
+        self.assertEqual(self.gate('echo rt: ok; echo 3 passed, 0 failed'), (0, f'{ALL} passed, 0 failed', COMMANDS))
+        self.assertEqual(self.left, 'rt: ok\n3 passed, 0 failed\n')
+
+    def test_what_rt_says_is_left(self):
+        for ci in ('echo 0 passed, 1 failed; exit 1', 'echo 0 passed, 1 failed >&2; exit 1'):
+            self.gate(ci)
+            self.assertEqual(self.left, '0 passed, 1 failed\n')
 
     def test_rt_ci_fails(self):
         for ci, last in [
@@ -662,6 +702,7 @@ class Gate(unittest.TestCase):
 
     def test_nothing_is_noted(self):
         self.assertEqual(self.gate('echo 3 passed, 0 failed', tee='#!/bin/sh\ncat\n'), (1, '0 passed, 1 failed', ['rt ci']))
+        self.assertEqual(self.left, '')
 
     def test_another_command_fails(self):
         for command in COMMANDS[1:]:

@@ -22,19 +22,19 @@ NAMED = {
         'crates/answers/specs/Answers.antt': ['planned', 'buffer_after', 'HandedOver', 'PlanAnswered', 'ChartAnswered'],
         'crates/answers/specs/Plan.antt': ['Plan', 'partitions'],
         'crates/load/specs/Weigh.antt': ['RowFits'],
-        'crates/plan_file/specs/Numbers.antt': ['PlanPart', 'namers', 'is_shared_in', 'plan_part', 'plan_parts', 'partsOf', 'no_plan_part', 'partAt'],
+        'crates/plan_file/specs/Numbers.antt': ['PlanPart', 'namers', 'is_shared_in', 'plan_part', 'plan_parts', 'parts_of', 'no_plan_part', 'part_at'],
         'crates/plan_file/specs/PartLines.antt': ['own_lines', 'lines_by_part', 'lines_of_part'],
         'crates/refusal/specs/Limits.antt': ['task_limit', 'kept_limit', 'cycle'],
         'crates/refusal/specs/Number.antt': ['is_of_the_file'],
-        'crates/task_set/specs/Partition.antt': ['Partition', 'isShared', 'shared_locks'],
+        'crates/task_set/specs/Partition.antt': ['Partition', 'is_shared', 'shared_locks'],
         'crates/supply/specs/Signed.antt': ['larger', 'ceil_of', 'signed_round', 'signed_at', 'signed_supply'],
     },
     REQUESTS: {
-        'crates/text/specs/Bytes.antt': ['Line', 'into_line', 'linesOf'],
+        'crates/text/specs/Bytes.antt': ['Line', 'into_line', 'lines_of'],
         'crates/refusal/specs/Limits.antt': ['number_limit', 'cycle'],
         'crates/answers/specs/Plan.antt': ['cycle_questions', 'in_cycle_plan', 'cycle_plan'],
         'crates/answers/specs/Answers.antt': ['in_room', 'charted_in', 'chart_of'],
-        'crates/holding/specs/Holding.antt': ['highest_ceiling', 'inRange', 'permitted', 'holding_time_of'],
+        'crates/holding/specs/Holding.antt': ['highest_ceiling', 'in_range', 'permitted', 'holding_time_of'],
         'crates/candidates/specs/Candidates.antt': ['kept_among', 'kept_list', 'kept_from', 'kept_answer', 'shown_ceiling'],
         'crates/supply/specs/Supply.antt': ['round_of', 'supply_at', 'supply_of'],
         'crates/supply/specs/Signed.antt': ['SignsMakeNoDifference'],
@@ -132,7 +132,7 @@ def check_uses(top):
             for item in items.strip('{}').split(','):
                 name = item.split()[-1] if item.strip() else ''
                 _, crate, _, home = homes.get(name, '///').split('/')
-                if crate and not re.fullmatch(rf'Rattle·{crate}(?:·specs)?\.specs\.{home[:-5]} {name}', f'{module} {item.strip()}'):
+                if crate and not re.fullmatch(rf'Rattle\.{crate}\.specs\.{home[:-5]} {name}', f'{module} {item.strip()}'):
                     yield f'{path.relative_to(top)}: {name} is not that of {homes[name]}'
 
 
