@@ -442,8 +442,9 @@ def check_verdicts(top):
                 yield f'{name}: {path.relative_to(top)} postulates'
         if re.search(rf'^rt: {name} is kept: an earlier run on this machine proved the same files', log, re.M):
             continue
-        verdicts = re.findall(r'^logic=.*', blocks.get(name, '').partition('\nrt: ')[0], re.M)
-        if not verdicts or not verdicts[-1].startswith('logic=proved ') or not re.search(rf'^rt: {name} proved$', log, re.M):
+        said, is_proved, _ = blocks.get(name, '').partition(f'\nrt: {name} proved\n')
+        verdicts = re.findall(r'^logic=.*', said, re.M)
+        if not is_proved or not verdicts or not verdicts[-1].startswith('logic=proved '):
             yield f'{name}: no verdict in {LOG}'
             continue
         words = {word.split('=')[0] for word in verdicts[-1].split()}

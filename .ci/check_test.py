@@ -181,7 +181,8 @@ def edit(breaks):
 
 def block(name, verdict=VERDICT):
     """What rt ci prints of a crate that it proves."""
-    return f'== {name}\nfn {name}::a: proved\n{verdict}\nrt: {name} proved\n'
+    tests = f'== {name}: its tests\n{VERDICT.replace("sum", "tests=1 axioms=9 sum")}\nrt: {name}: its tests are proved\n'
+    return f'== {name}\nrt: the check was killed, most likely for memory: once more\nfn {name}::a: proved\n{verdict}\nrt: {name} proved\n{tests}'
 
 
 def kept(name):
