@@ -51,9 +51,9 @@ ROWS = {'A': 1, 'B': 5, 'C': 2, 'D': 1, 'E': 1, 'F': 1, 'G': 1, 'H': 1, 'I': 1, 
 
 
 def listed(top):
-    """Each crate of crates.txt, with the crates that it lists."""
+    """Each crate of crates.txt, with the crates that it lists; between its name and the colon may stand what is built of it, as `staticlib`."""
     lines = [line.split('#')[0].partition(':') for line in (top / 'crates.txt').read_text().splitlines()]
-    return {name.strip(): names.split() for name, _, names in lines if name.strip()}
+    return {name.split()[0]: names.split() for name, _, names in lines if name.strip()}
 
 
 def crates(top):

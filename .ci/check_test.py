@@ -275,7 +275,7 @@ def right_tree():
         f'use Rattle.{path.split("/")[1]}.specs.{Path(path).stem}.{{{name} as name{at}}}\n' for at, (path, name) in enumerate(named))
     files[NAMED] += '\nabbrev pub every : Type 0\nevery = few load_of' + ''.join(f' name{at}' for at in range(len(named))) + '\n'
     names = sorted({path.split('/')[1] for path in files if path.startswith('crates/')})
-    files['crates.txt'] = '# all\n' + ''.join(f'{name}: {LISTS.get(name, "")}\n' for name in names)
+    files['crates.txt'] = '# all\n' + ''.join(f'{name}{" staticlib" if name == "planner_c" else ""}: {LISTS.get(name, "")}\n' for name in names)
     files[LOG] = ''.join(kept(name) if name == 'scan' else block(name, VERDICT if name != 'plan' else VERDICT.replace('sum', 'axioms=9 sum')) for name in names)
     files[LOG] += ''.join(f'rt: must-fail {name}.edit: refused, as it must be: {error}\n' for name, error in said.items())
     files[LOG] += f'rt: ok; handles allowed: none; must-fail edits: {len(said)} refused; done in this run: 9 of the 9 proofs\n9 passed, 0 failed\n'
