@@ -5,21 +5,21 @@ use candidates::Kept;
 use refusal::Outcome;
 
 // What a plan and a chart answer: how many bytes they wrote.
-#[derive(Drop)]
+#[derive(Clone, Copy)]
 pub struct Planned {
     pub outcome: Outcome,
     pub written: usize,
 }
 
 // What candidates answers: the kept pairs of the part and their count.
-#[derive(Drop)]
+#[derive(Clone, Copy)]
 pub struct CandidateList {
     pub outcome: Outcome,
     pub kept: Kept,
 }
 
 // What supply answers.
-#[derive(Drop)]
+#[derive(Clone, Copy)]
 pub struct Supplied {
     pub outcome: Outcome,
     pub ticks: u64,

@@ -107,7 +107,7 @@ fn tried(low: u64, high: u64, halve: bool) -> u64
 }
 
 // The least budget of a task, and a time before which the task's need is not met with it.
-#[derive(Drop)]
+#[derive(Clone, Copy)]
 pub struct Passed {
     pub budget: Least,
     pub time: u64,

@@ -21,7 +21,7 @@ use task_set::Part;
 
 // A candidate: a least passing budget Q with its setting's holding time X.
 #[repr(C)]
-#[derive(Drop)]
+#[derive(Clone, Copy)]
 pub struct Pair {
     pub budget: u64,
     pub holding: u64,
@@ -29,7 +29,7 @@ pub struct Pair {
 
 // The kept list in falling X, and its count; the places behind it are zero.
 #[repr(C)]
-#[derive(Drop)]
+#[derive(Clone, Copy)]
 pub struct Kept {
     pub pairs: [Pair; KEPT_LIMIT],
     pub count: usize,
@@ -62,7 +62,7 @@ fn task_budget(
 }
 
 // The least budget with which all tasks pass, and the blockings with which they do; none where there is no such budget.
-#[derive(Drop)]
+#[derive(Clone, Copy)]
 pub struct Budgeted {
     pub found: bool,
     pub blocked: [u64; 16],

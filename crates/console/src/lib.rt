@@ -7,7 +7,7 @@ ghost use Rattle.console.specs.Printed.{printed_of, printed};
 use refusal::Outcome;
 
 // The bytes to print are the first `count` of the text, zeros stand behind them.
-#[derive(Drop)]
+#[derive(Clone, Copy)]
 pub struct Printed {
     pub text: [u8; 8192],
     pub count: usize,

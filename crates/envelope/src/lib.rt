@@ -11,7 +11,7 @@ ghost use Rattle.envelope.specs.Code.Envelope.{first_met, FineSupply, slope_scal
 use least::Least;
 
 // A linear supply: a demand of x is met by the time v if times * x + wait <= rate * v. With a wait of 1 a ratio is to be smaller, with 0 no greater.
-#[derive(Drop)]
+#[derive(Clone, Copy)]
 pub struct LinearSupply {
     pub times: u64,
     pub wait: u64,
@@ -19,7 +19,7 @@ pub struct LinearSupply {
 }
 
 // A straight line: `fixed` ticks, and `slope` ticks more in every SCALE.
-#[derive(Drop)]
+#[derive(Clone, Copy)]
 pub struct Line {
     pub fixed: u64,
     pub slope: u64,

@@ -10,7 +10,7 @@ ghost use Rattle.fields.specs.Code.Fields.{number_in};
 use refusal::{NAME_LIMIT, NUMBER_LIMIT};
 
 // A number field.
-#[derive(Drop)]
+#[derive(Clone, Copy)]
 pub enum Number {
     Is(u64),
     Malformed,

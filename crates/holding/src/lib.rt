@@ -53,7 +53,7 @@ pub fn hold(
 }
 
 // A ceiling with the holding time of a lock there.
-#[derive(Drop)]
+#[derive(Clone, Copy)]
 pub enum Ceiling {
     Held(usize, u64),
     NotHeld,
@@ -61,7 +61,7 @@ pub enum Ceiling {
 
 // What the search for a lock's ceiling found. A lock whose longest use is `longest` is held for more than `most` at each ceiling from `from` on that is below
 // `ceiling`, and for no less than `time` at `ceiling`. A lock whose longest use is no smaller is held no shorter.
-#[derive(Drop)]
+#[derive(Clone, Copy)]
 pub struct Hint {
     pub longest: u64,
     pub most: u64,
@@ -84,7 +84,7 @@ pub fn no_hint() -> Hint
 }
 
 // The ceiling that a search begins at, and a time that no holding time there is below.
-#[derive(Drop)]
+#[derive(Clone, Copy)]
 pub struct Begin {
     pub ceiling: usize,
     pub time: u64,
@@ -119,7 +119,7 @@ fn begin_at(hint: Hint, g: u64, most: u64, r: usize) -> Begin
 }
 
 // The lowest ceiling that a search found, and a hint for the search of another lock.
-#[derive(Drop)]
+#[derive(Clone, Copy)]
 pub struct Lowest {
     pub ceiling: Ceiling,
     pub hint: Hint,

@@ -23,7 +23,7 @@ fn is_part_number(part: usize, n: usize) -> bool
 }
 
 // Where the name of a part stands in its file: a stretch of no bytes at 0 on refusal.
-#[derive(Drop)]
+#[derive(Clone, Copy)]
 pub struct NameStretch {
     pub outcome: Outcome,
     pub span: Span,

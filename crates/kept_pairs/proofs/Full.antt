@@ -54,9 +54,9 @@ file_reads = refl
 abbrev pub first_part : PlanPart
 first_part = plan_part parts first
 
-pub first_part : PartOf file 1 first_part
+pub first_part_lem : PartOf file 1 first_part
 unfolding numbered nth_or
-first_part = record { parts = plan_parts parts; readable = (parts_answered_iff file (plan_parts parts)).0 (ap numbered file_reads); from = omega arith; to = omega arith; is = refl }
+first_part_lem = record { parts = plan_parts parts; readable = (parts_answered_iff file (plan_parts parts)).0 (ap numbered file_reads); from = omega arith; to = omega arith; is = refl }
 
 -- its numbers are those of `stairs 16`
 pub first_stairs : first_part.numbers ≡ stairs 16

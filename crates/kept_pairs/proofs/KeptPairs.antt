@@ -23,7 +23,7 @@ use Rattle.planner.specs.Refusals.{PartOf}
 use Rattle.planner.proofs.Local.{candidates_kept}
 use Rattle.kept_pairs.specs.KeptPairs.{KeptPairs}
 use Rattle.kept_pairs.proofs.Sharp.{stairs_count, reached}
-use Rattle.kept_pairs.proofs.Full.{file, first_part, first_part, first_stairs}
+use Rattle.kept_pairs.proofs.Full.{file, first_part, first_part_lem, first_stairs}
 
 -- a part of a readable file
 module _ (s : List ℕ) (k : ℕ) (p : PlanPart) (d : PartOf s k p) where
@@ -51,7 +51,7 @@ places (refused r) = length_pad kept_limit (pair 0 0) []
 -- a file with a part that has 16
 all_taken : (candidate_list (candidates_of file 1)).kept.count ≡ 16
 unfolding kept_answer
-all_taken = ap (λ (a : Kept). a.count) (kept_is file 1 first_part first_part) ∙ ap (λ (v : Partition). length (kept_list v)) first_stairs ∙ stairs_count 16 (omega arith)
+all_taken = ap (λ (a : Kept). a.count) (kept_is file 1 first_part first_part_lem) ∙ ap (λ (v : Partition). length (kept_list v)) first_stairs ∙ stairs_count 16 (omega arith)
 
 pub kept_pairs : KeptPairs
 kept_pairs = record {

@@ -6,7 +6,7 @@ ghost use Rattle.least.specs.Round.{ceil_div};
 ghost use Rattle.least.specs.Fraction.{less};
 
 // The answer of a bounded search for the least number that passes a test.
-#[derive(Drop)]
+#[derive(Clone, Copy)]
 pub enum Least {
     At(u64),
     Nothing,
@@ -14,7 +14,7 @@ pub enum Least {
 
 // A fraction; 1/0 stands for "no bound" and is above every other.
 #[repr(C)]
-#[derive(Drop)]
+#[derive(Clone, Copy)]
 pub struct Frac {
     pub num: u64,
     pub den: u64,

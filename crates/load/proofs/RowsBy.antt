@@ -63,9 +63,9 @@ module _ (periods sums holdings : List ℕ) (n : ℕ) where
         (λ k h. ap (λ (r : Row). r.period) (rows_get k h)) (λ k h. let e = ap row_sum (rows_get k h) in omega (arith, fine.holds k h)) t s
 
     -- the bound of the row at the place k
-    pub bound_at : (k : ℕ) → k < n → get_or (bounds_of (rows_by periods sums holdings n)) k no_frac ≡ bound_of [] (row (get_or periods k 0) (get_or sums k 0 + blocking_at k) 0) (drop (k + 1) (rows_costing periods sums n))
+    pub bound_at_lem : (k : ℕ) → k < n → get_or (bounds_of (rows_by periods sums holdings n)) k no_frac ≡ bound_of [] (row (get_or periods k 0) (get_or sums k 0 + blocking_at k) 0) (drop (k + 1) (rows_costing periods sums n))
     unfolding bounds_of
-    bound_at k h =
+    bound_at_lem k h =
         let R = rows_by periods sums holdings n in
         let e : get_or sums k 0 + blocking_at k ≡ row_sum (row_at periods sums holdings k) + blocking_at k = omega (arith, fine.holds k h) in
         along_at bound_of no_row no_frac R k (omega (arith, rows_length)) ∙ ap (λ (r : Row). bound_of (reverse (take k R)) r (drop (suc k) R)) (rows_get k h)
@@ -77,4 +77,4 @@ module _ (periods sums holdings : List ℕ) (n : ℕ) where
 
     pub bounds_next : (k : ℕ) (b : Frac) → k < n → b ≡ bound_of [] (row (get_or periods k 0) (get_or sums k 0 + blocking_at k) 0) (drop (k + 1) (rows_costing periods sums n)) → set (pad 16 no_frac (take k (bounds_of (rows_by periods sums holdings n)))) k b ≡ pad 16 no_frac (take (k + 1) (bounds_of (rows_by periods sums holdings n)))
     bounds_next k b h e =
-        pad_next 16 no_frac (bounds_of (rows_by periods sums holdings n)) k b no_frac (omega (arith, bounds_of-length (rows_by periods sums holdings n), rows_length)) (omega (arith, fine.demand.fine.few)) (e ∙ sym (bound_at k h))
+        pad_next 16 no_frac (bounds_of (rows_by periods sums holdings n)) k b no_frac (omega (arith, bounds_of-length (rows_by periods sums holdings n), rows_length)) (omega (arith, fine.demand.fine.few)) (e ∙ sym (bound_at_lem k h))

@@ -18,7 +18,7 @@ use refusal::{NUMBER_LIMIT, Outcome, ROW_LIMIT, Refusal};
 
 // A row: a period P, a budget Q and a holding time X.
 #[repr(C)]
-#[derive(Drop)]
+#[derive(Clone, Copy)]
 pub struct Row {
     pub period: u64,
     pub budget: u64,
@@ -27,14 +27,14 @@ pub struct Row {
 
 // Up to sixteen rows, lowest priority first, and their count.
 #[repr(C)]
-#[derive(Drop)]
+#[derive(Clone, Copy)]
 pub struct Rows {
     pub rows: [Row; 16],
     pub count: usize,
 }
 
 // What weighing answers: every row's bound, the load, and the number of its row.
-#[derive(Drop)]
+#[derive(Clone, Copy)]
 pub struct Weighed {
     pub outcome: Outcome,
     pub bounds: [Frac; 16],
@@ -176,7 +176,7 @@ pub fn bounds_of(
 }
 
 // The rows by columns: arrays can be lent to a loop, a struct would be copied.
-#[derive(Drop)]
+#[derive(Clone, Copy)]
 pub struct RowColumns {
     pub periods: [u64; 16],
     pub sums: [u64; 16],

@@ -57,7 +57,7 @@ fn rows_by(periods: &[u64; 16], sums: &[u64; 16], holdings: &[u64; 16], n: usize
 }
 
 // The rows of the plan, or the refusal.
-#[derive(Drop)]
+#[derive(Clone, Copy)]
 pub struct PlanRows {
     pub outcome: Outcome,
     pub rows: Rows,

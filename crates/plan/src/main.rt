@@ -10,7 +10,7 @@ use refusal::FILE_LIMIT;
 use stretch::Span;
 
 // What one call of read has brought: some bytes, the end of the input, a failure, or nothing, where a signal interrupted it.
-#[derive(Drop)]
+#[derive(Clone, Copy)]
 struct Got {
     count: usize,
     is_end: bool,
@@ -30,7 +30,7 @@ fn read_some(fd: i32, buf: &mut [u8]) -> Got
 }
 
 // How many bytes were read, and whether they are all: the input has ended, or the buffer is full.
-#[derive(Drop)]
+#[derive(Clone, Copy)]
 struct Input {
     count: usize,
     is_whole: bool,
@@ -59,7 +59,7 @@ fn read_all(fd: i32, buf: &mut [u8]) -> Input
 }
 
 // What one call of write has taken: some bytes, or none, where it failed or a signal interrupted it.
-#[derive(Drop)]
+#[derive(Clone, Copy)]
 struct Put {
     count: usize,
     is_failed: bool,

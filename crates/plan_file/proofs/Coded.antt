@@ -21,7 +21,7 @@ use Rattle.codes.proofs.Places.{place_none as none_of, place_first as first_of, 
 use Rattle.plan_file.specs.declared.Names.{Names}
 use Rattle.plan_file.specs.Code.Entries.{no_names, names_of, FineNames, NumbersOf, place_among, with_name}
 use Rattle.plan_file.proofs.Places.{place_none, place_first, place_later}
-use Rattle.plan_file.proofs.SeenNames.{names_with, no_names}
+use Rattle.plan_file.proofs.SeenNames.{names_with, no_names_lem}
 
 -- the place of a name is that of its number
 place_same : (name : List ℕ) (ns : List (List ℕ)) → is_name name ≡ true → every is_name ns ≡ true → place_of (code_if name) (map code_if ns) ≡ place_among name ns
@@ -39,7 +39,7 @@ place_same name (n ∷ ns) g h = go (same name n) refl (place_same name ns g (ev
 
 -- no names
 pub numbers_none : (s codes : List ℕ) → length codes ≡ 16 → NumbersOf s no_names codes
-numbers_none s codes r = record { room = r; are = ap (map code_if) (sym (no_names s)); good = ap (every is_name) (no_names s) ∙ every_none is_name }
+numbers_none s codes r = record { room = r; are = ap (map code_if) (sym (no_names_lem s)); good = ap (every is_name) (no_names_lem s) ∙ every_none is_name }
 
 module _ (s : List ℕ) (ns : Names) (codes : List ℕ) (is : NumbersOf s ns codes) where
   pub numbers_place : (name : List ℕ) → is_name name ≡ true → place_of (code_if name) (take ns.count codes) ≡ place_among name (names_of s ns)

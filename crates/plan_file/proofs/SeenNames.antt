@@ -78,9 +78,9 @@ pub fine_with : (ns : Names) (p : Span) → FineNames ns → ns.count < 16 → F
 unfolding with_name
 fine_with ns p f h = record { few = omega arith; room = length-set ns.span ns.count p ∙ f.room }
 
-pub no_names : (s : List ℕ) → names_of s no_names ≡ []
+pub no_names_lem : (s : List ℕ) → names_of s no_names ≡ []
 unfolding names_of
-no_names s = refl
+no_names_lem s = refl
 
 pub fine_none : FineNames no_names
 fine_none = record { few = omega arith; room = length_pad 16 no_span [] }

@@ -18,7 +18,7 @@ use Rattle.plan_file.specs.Above.{FileLock, FileTask, FilePart, no_task, lock_me
 use Rattle.plan_file.specs.Reading.{task_names, locks_of}
 use Rattle.plan_file.specs.Code.Entries.{FineNames, no_names, no_task_read, names_of, place_among, with_name, with_lock_name}
 use Rattle.plan_file.proofs.Places.{names_length}
-use Rattle.plan_file.proofs.SeenNames.{names_with, fine_with, no_names, fine_none, names_lock, fine_lock}
+use Rattle.plan_file.proofs.SeenNames.{names_with, fine_with, no_names_lem, fine_none, names_lock, fine_lock}
 use Rattle.plan_file.proofs.SeenLocks.{AllHeld, lock_names_different, lock_names_task, lock_names_lock}
 use Rattle.plan_file.proofs.SeenTasks.{task_with, padded, padded_new, padded_lock}
 
@@ -45,8 +45,8 @@ part_is_new s name P = record {
   fine_tasks = fine_none;
   fine_locks = fine_none;
   few_locks = omega arith;
-  task_names_is = no_names s;
-  lock_names_is = no_names s;
+  task_names_is = no_names_lem s;
+  lock_names_is = no_names_lem s;
   last_is = sym (padded_new [] no_task refl);
   held = λ l m. absurd (Memᴰ.not-nil m);
 }

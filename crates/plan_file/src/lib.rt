@@ -10,7 +10,7 @@ use stretch::Span;
 use task_set::Task;
 
 // Names in the order of their lines, as stretches of the file.
-#[derive(Drop)]
+#[derive(Clone, Copy)]
 pub struct Names {
     pub count: usize,
     pub span: [Span; 16],
@@ -18,7 +18,7 @@ pub struct Names {
 
 // What the questions look at of the lines above: whether the line directly above is a `part` or the `end`; the names of the parts so far; and of the last
 // part the names of its tasks and of its different locks, and its last task.
-#[derive(Drop)]
+#[derive(Clone, Copy)]
 pub struct Seen {
     pub fresh: bool,
     pub ended: bool,
@@ -29,7 +29,7 @@ pub struct Seen {
 }
 
 // What a record enters, if its questions have the answer yes. Of a lock also its place among the locks of the part, from 0.
-#[derive(Drop)]
+#[derive(Clone, Copy)]
 pub enum Entry {
     Part(Span, u64),
     Task(Span, u64, u64, u64),
@@ -67,7 +67,7 @@ pub fn place_in(s: &[u8], names: Names, p: Span) -> usize
 }
 
 // A task's three numbers, or that one of them is malformed.
-#[derive(Drop)]
+#[derive(Clone, Copy)]
 pub enum Times {
     Are(u64, u64, u64),
     Malformed,

@@ -85,10 +85,10 @@ module _ (rows : List Row) where
       from f = (along_places row_passes (row 0 0 0) rows).1 (λ k h. sym (at_place k) ∙ (row_iff (suc k)).1 (f (suc k) (omega arith) (omega arith)))
 
   -- the bound of row j
-  bound_at : (j : ℕ) → 1 ≤ j → j ≤ length rows → bound_at (bounds_of rows) j ≡ bound_of (lower j) (row_at rows j) (drop j rows)
+  bound_at_lem : (j : ℕ) → 1 ≤ j → j ≤ length rows → bound_at (bounds_of rows) j ≡ bound_of (lower j) (row_at rows j) (drop j rows)
   unfolding bounds_of
-  bound_at zero a b = absurd (omega arith)
-  bound_at (suc k) a b =
+  bound_at_lem zero a b = absurd (omega arith)
+  bound_at_lem (suc k) a b =
       let e : suc k - 1 ≡ k = omega arith in
       rw e (nth_get (frac 0 0) k (bounds_of rows) ∙ along_at bound_of (row 0 0 0) (frac 0 0) rows k (omega arith) ∙ ap (λ (r : Row). bound_of (reverse (take k rows)) r (drop (suc k) rows)) (sym (nth_get (row 0 0 0) k rows)))
 
@@ -96,14 +96,14 @@ module _ (rows : List Row) where
     pub time_iff : (has_time (bound_at (bounds_of rows) j) ≡ true) ↔ ((t : ℕ) × TimeOf rows j t)
     time_iff =
         let iff = bound_finite (lower j) (row_at rows j) (drop j rows) in (
-          (λ e. (row_iff j).0 (iff.0 (record { pos = leb-true 1 _ (rw (bound_at j a b) at e) }))),
-          λ k. rw (bound_at j a b) (le-leb 1 _ (iff.1 ((row_iff j).1 k)).pos),
+          (λ e. (row_iff j).0 (iff.0 (record { pos = leb-true 1 _ (rw (bound_at_lem j a b) at e) }))),
+          λ k. rw (bound_at_lem j a b) (le-leb 1 _ (iff.1 ((row_iff j).1 k)).pos),
         )
 
     bound_is : (t : ℕ) × TimeOf rows j t → BoundIs rows j (bound_at (bounds_of rows) j)
     bound_is k =
         let B = bound_at (bounds_of rows) j in
-        let p = bound_paper (lower j) (row_at rows j) (drop j rows) B.num B.den (sym (bound_at j a b)) (leb-true 1 _ (time_iff.1 k)) in
+        let p = bound_paper (lower j) (row_at rows j) (drop j rows) B.num B.den (sym (bound_at_lem j a b)) (leb-true 1 _ (time_iff.1 k)) in
         record {
           time = record { from = p.above; to = p.within; served = omega (arith, p.value, p.served, L-reverse j B.den) };
           value = p.value ∙ L-reverse j B.den;
@@ -115,7 +115,7 @@ module _ (rows : List Row) where
         earliest u t g (yes h) = h
         earliest u t g (no h) =
             let B = bound_at (bounds_of rows) j in
-            let p = bound_paper (lower j) (row_at rows j) (drop j rows) B.num B.den (sym (bound_at j a b)) (leb-true 1 _ (time_iff.1 k)) in
+            let p = bound_paper (lower j) (row_at rows j) (drop j rows) B.num B.den (sym (bound_at_lem j a b)) (leb-true 1 _ (time_iff.1 k)) in
             absurd (not-⊏ (rw (L-reverse j u) at (p.first u t.from (omega arith) (omega (arith, t.served, L-reverse j u)))) g)
 
     is_bound : {c : Frac} → BoundIs rows j c → c ≡ bound_at (bounds_of rows) j

@@ -12,7 +12,7 @@ use least::Frac;
 use load::{Row, Rows, Weighed};
 
 #[repr(C)]
-#[derive(Drop)]
+#[derive(Clone, Copy)]
 pub struct PlanAnswer {
     pub number: u64,
     pub place: u64,
@@ -46,7 +46,7 @@ pub extern "C" fn planner_chart(file: &[u8], out: &mut [u8]) -> PlanAnswer
 }
 
 #[repr(C)]
-#[derive(Drop)]
+#[derive(Clone, Copy)]
 pub struct CandidatesAnswer {
     pub number: u64,
     pub place: u64,
@@ -68,7 +68,7 @@ pub extern "C" fn planner_candidates(file: &[u8], part: usize) -> CandidatesAnsw
 }
 
 #[repr(C)]
-#[derive(Drop)]
+#[derive(Clone, Copy)]
 pub struct NameAnswer {
     pub number: u64,
     pub place: u64,
@@ -92,7 +92,7 @@ pub extern "C" fn planner_name(file: &[u8], part: usize) -> NameAnswer
 }
 
 #[repr(C)]
-#[derive(Drop)]
+#[derive(Clone, Copy)]
 pub struct WeighAnswer {
     pub number: u64,
     pub place: u64,
@@ -132,7 +132,7 @@ pub extern "C" fn planner_weigh_slice(rows: &[Row]) -> WeighAnswer
 }
 
 #[repr(C)]
-#[derive(Drop)]
+#[derive(Clone, Copy)]
 pub struct SupplyAnswer {
     pub number: u64,
     pub place: u64,

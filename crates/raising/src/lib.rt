@@ -36,7 +36,7 @@ fn next_ceiling(
 }
 
 // The ceilings of all locks with their holding times, and X; none where some lock has none.
-#[derive(Drop)]
+#[derive(Clone, Copy)]
 pub struct Raised {
     pub found: bool,
     pub ceilings: [usize; 8],

@@ -11,7 +11,7 @@ use stretch::Span;
 use task_set::{Part, Task};
 
 // A part that was read: its name and the names of its locks as stretches of the file, and its numbers.
-#[derive(Drop)]
+#[derive(Clone, Copy)]
 pub struct PartRead {
     pub name: Span,
     pub part: Part,
@@ -19,7 +19,7 @@ pub struct PartRead {
 }
 
 // What was read: the parts of the file and their count, or the refusal.
-#[derive(Drop)]
+#[derive(Clone, Copy)]
 pub struct PlanFile {
     pub outcome: Outcome,
     pub parts: [PartRead; 16],

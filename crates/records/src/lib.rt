@@ -9,7 +9,7 @@ use scan::Scanned;
 use stretch::Span;
 
 // A record, with its fields as stretches of the file.
-#[derive(Drop)]
+#[derive(Clone, Copy)]
 pub enum Shape {
     Part {
         name: Span,
@@ -30,21 +30,21 @@ pub enum Shape {
 }
 
 // A place in the file: the position of a line's first byte, and the line's number.
-#[derive(Drop)]
+#[derive(Clone, Copy)]
 pub struct Cursor {
     pub at: usize,
     pub line: u64,
 }
 
 // What stands at a cursor: a record with the cursor behind it, a line with a no to question 2, or nothing.
-#[derive(Drop)]
+#[derive(Clone, Copy)]
 pub enum Next {
     Record(Shape, Cursor),
     Broken,
     Over,
 }
 
-#[derive(Drop)]
+#[derive(Clone, Copy)]
 pub enum Word {
     PartWord,
     TaskWord,

@@ -37,7 +37,7 @@ pub const CEILING_PLACES: usize = PART_LIMIT * LOCK_LIMIT;
 pub const USE_PLACES: usize = TASK_LIMIT * LOCK_LIMIT;
 
 // A refusal by its question, with the place where the paper gives one.
-#[derive(Drop)]
+#[derive(Clone, Copy)]
 pub enum Refusal {
     // 1. Is the file at most 32,768 bytes?
     FileTooLong,
@@ -71,7 +71,7 @@ pub enum Refusal {
     OutOfCycle(u64),
 }
 
-#[derive(Drop)]
+#[derive(Clone, Copy)]
 pub enum Outcome {
     Done,
     Refused(Refusal),

@@ -5,14 +5,14 @@ ghost use Rattle.std.specs.Prelude.{◌≡◌, ◌&&◌, leb};
 ghost use Rattle.scan.specs.Positions.{line_at};
 
 // The first five tabs of a line: how many there are, and where they stand.
-#[derive(Drop)]
+#[derive(Clone, Copy)]
 pub struct Tabs {
     pub count: usize,
     pub place: [usize; 5],
 }
 
 // A line: whether question 2 has the answer yes and, if so, where its byte 10 stands, and its first five tabs.
-#[derive(Drop)]
+#[derive(Clone, Copy)]
 pub struct Scanned {
     pub good: bool,
     pub end: usize,

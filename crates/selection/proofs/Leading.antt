@@ -17,7 +17,7 @@ use Rattle.load.specs.declared.Row.{Row}
 use Rattle.load.specs.Load.{row, row_sum, bound_of}
 use Rattle.load.specs.Code.ByColumn.{rows_costing, rows_by, FineColumns}
 use Rattle.load.specs.Code.Rows.{no_row}
-use Rattle.load.proofs.RowsBy.{rows_length, rows_get, blocking_none, bound_at}
+use Rattle.load.proofs.RowsBy.{rows_length, rows_get, blocking_none, bound_at_lem}
 use Rattle.selection.specs.Code.Choosing.{FineBest, bound_at, held_before, StuckIs, HeaviestIs}
 use Rattle.selection.proofs.Lower.{bound_at_ok, bound_at_small, bound_at_proper}
 
@@ -56,7 +56,7 @@ module _ (periods sums holdings : List ℕ) (n : ℕ) (fine : FineColumns period
   R = rows_by periods sums holdings n
 
   pub bound_is : (s below : ℕ) (b : Frac) → s < n → below ≡ held_before R s → b ≡ bound_of [] (row (get_or periods s 0) (get_or sums s 0 + below) 0) (drop (s + 1) (rows_costing periods sums n)) → b ≡ bound_at R s
-  bound_is s below b h e q = rw e at q ∙ sym (bound_at periods sums holdings n fine s h)
+  bound_is s below b h e q = rw e at q ∙ sym (bound_at_lem periods sums holdings n fine s h)
 
   bound_small : (s : ℕ) → s < n → ((bound_at R s).num ≤ number_limit) × ((bound_at R s).den ≤ number_limit)
   bound_small s h =
@@ -104,7 +104,7 @@ module _ (periods sums holdings : List ℕ) (n : ℕ) (fine : FineColumns period
     module _ (s below : ℕ) (r : Bool) (within : s < n) (held : below ≡ held_before R s)
         (is : r ≡ at_most best (bound_of [] (row (get_or periods s 0) (get_or sums s 0 + below) 0) (drop (s + 1) (rows_costing periods sums n)))) where
       reaches_at : r ≡ at_most best (bound_at R s)
-      reaches_at = rw held at is ∙ ap (at_most best) (sym (bound_at periods sums holdings n fine s within))
+      reaches_at = rw held at is ∙ ap (at_most best) (sym (bound_at_lem periods sums holdings n fine s within))
 
       pub reaches_true : r ≡ true → best ⊑ bound_at R s
       reaches_true e = record { cross = leb-true _ _ (sym reaches_at ∙ e) }

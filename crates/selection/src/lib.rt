@@ -14,7 +14,7 @@ use least::{Frac, Least};
 use refusal::{KEPT_LIMIT, OFFER_PLACES};
 
 // A choice by columns: what each part's row costs, and its holding time.
-#[derive(Drop)]
+#[derive(Clone, Copy)]
 pub struct Columns {
     pub sums: [u64; 16],
     pub holdings: [u64; 16],
@@ -87,7 +87,7 @@ fn reaches(
 }
 
 // Whether some row has a bound that is not below a given one, and what blocks this row.
-#[derive(Drop)]
+#[derive(Clone, Copy)]
 pub struct Stuck {
     pub found: bool,
     pub blocking: u64,
@@ -123,7 +123,7 @@ fn first_reaching(
 }
 
 // The bound of a row, and what blocks the row.
-#[derive(Drop)]
+#[derive(Clone, Copy)]
 pub struct Weight {
     pub bound: Frac,
     pub blocking: u64,
@@ -176,7 +176,7 @@ fn mover(
 }
 
 // The choice of least load, and whether it passes.
-#[derive(Drop)]
+#[derive(Clone, Copy)]
 pub struct Choice {
     pub found: bool,
     pub sums: [u64; 16],

@@ -10,7 +10,7 @@ use refusal::USE_PLACES;
 
 // A task: least separation T, worst execution time C, deadline D; and for each lock of the part, in order of first mention, how long the
 // task holds it at most, 0 where it does not use it.
-#[derive(Drop)]
+#[derive(Clone, Copy)]
 pub struct Task {
     pub separation: u64,
     pub cost: u64,
@@ -20,7 +20,7 @@ pub struct Task {
 
 // A part: its server period, its tasks, lowest priority first, the number of its locks, and for each of them whether it is shared: another part of the file names
 // it too.
-#[derive(Drop)]
+#[derive(Clone, Copy)]
 pub struct Part {
     pub period: u64,
     pub tasks: [Task; 16],
@@ -30,7 +30,7 @@ pub struct Part {
 }
 
 // The times of a part's tasks by columns: arrays can be lent to a loop, a struct would be copied.
-#[derive(Drop)]
+#[derive(Clone, Copy)]
 pub struct Columns {
     pub separations: [u64; 16],
     pub costs: [u64; 16],
@@ -59,7 +59,7 @@ pub fn columns_of(part: Part) -> Columns
 }
 
 // A lock of a part: its lowest ceiling, its longest use, and the smallest deadline among its users.
-#[derive(Drop)]
+#[derive(Clone, Copy)]
 pub struct Lock {
     pub lowest: usize,
     pub longest: u64,
@@ -67,7 +67,7 @@ pub struct Lock {
 }
 
 // The locks of a part by columns.
-#[derive(Drop)]
+#[derive(Clone, Copy)]
 pub struct Locks {
     pub lowest: [usize; 8],
     pub longest: [u64; 8],

@@ -40,9 +40,9 @@ pub value_digits : (n : ℕ) → value_of (digits_of n) ≡ n
 unfolding digits_of
 value_digits n = value_within (suc n) n (omega arith)
 
-is_digit : (n : ℕ) → n < 10 → is_digit (48 + n) ≡ true
+is_digit_lem : (n : ℕ) → n < 10 → is_digit (48 + n) ≡ true
 unfolding is_digit
-is_digit n h = simp (le-leb 48 (48 + n) (omega arith), le-leb (48 + n) 57 (omega arith))
+is_digit_lem n h = simp (le-leb 48 (48 + n) (omega arith), le-leb (48 + n) 57 (omega arith))
 
 no_digits : (n : ℕ) → every is_digit (digits_within 0 n) ≡ true
 unfolding digits_within every
@@ -51,8 +51,8 @@ no_digits n = refl
 digits_within_lem : (k n : ℕ) → every is_digit (digits_within k n) ≡ true
 digits_within_lem zero n = no_digits n
 digits_within_lem (suc k) n =
-    last_digit (λ ds. every is_digit ds ≡ true) k n (λ l. every_snoc is_digit [] (48 + n) (every_none is_digit) (is_digit n l))
-    (λ l. every_snoc is_digit (digits_within k (n / 10)) (48 + n % 10) (digits_within_lem k (n / 10)) (is_digit (n % 10) (omega arith)))
+    last_digit (λ ds. every is_digit ds ≡ true) k n (λ l. every_snoc is_digit [] (48 + n) (every_none is_digit) (is_digit_lem n l))
+    (λ l. every_snoc is_digit (digits_within k (n / 10)) (48 + n % 10) (digits_within_lem k (n / 10)) (is_digit_lem (n % 10) (omega arith)))
 
 pub digits_digits : (n : ℕ) → every is_digit (digits_of n) ≡ true
 unfolding digits_of

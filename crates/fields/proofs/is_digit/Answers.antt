@@ -1,0 +1,13 @@
+-- `fields::is_digit` meets its contract.
+-- Assumes nothing.
+use borrow.Author.Tests.{lt-leb, le-leb}
+use Rattle.text.specs.Decimal.{is_digit}
+use Rattle.fields.proofs.is_digit.Goals as goal
+
+pub returns-then-b-lt48 : goal.returns-then-b-lt48
+unfolding is_digit
+returns-then-b-lt48 c = simp (lt-leb _ _ c.if-b-lt48.true)
+
+pub returns : goal.returns
+unfolding is_digit
+returns c = simp (le-leb _ _ c.if-b-lt48.false)
