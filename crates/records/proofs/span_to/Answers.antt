@@ -5,19 +5,15 @@ use Prim.Native.Nat.{ℕ}
 use native.Mathlib.Omega.{arith}
 use Rattle.stretch.specs.declared.Span.{Span}
 use Rattle.records.specs.Code.Shapes.{up_to}
-use Rattle.records.proofs.span_to.Statement.{statement}
-use Rattle.records.proofs.span_to.Tie as tie
+use Rattle.records.proofs.span_to.Goals as goal
 
 abbrev span : ℕ → ℕ → Span
 span a n = record { start = a; len = n }
 
-returns : tie.Need-returns
+pub returns-then-to-from : goal.returns-then-to-from
 unfolding up_to
-returns c = ap (λ (n : ℕ). span c.before.args.from n) (omega arith)
+returns-then-to-from c = ap (λ (n : ℕ). span c.args.from n) (omega arith)
 
-returns_2 : tie.Need-returns-2
+pub returns : goal.returns
 unfolding up_to
-returns_2 c = refl
-
-pub span_to_spec : {M : Type 1} → statement M
-span_to_spec = tie.close (tie.spec returns returns_2)
+returns c = refl

@@ -1,0 +1,13 @@
+-- `records::part_shape` meets its contract.
+-- Assumes nothing.
+use Rattle.records.specs.Code.Shapes.{part_shape}
+use borrow.Author.Tests.{eq-eqb, ne_eqb}
+use Rattle.records.proofs.part_shape.Goals as goal
+
+pub returns-then-t-eq2 : goal.returns-then-t-eq2
+unfolding part_shape
+returns-then-t-eq2 c = simp (eq-eqb _ _ c.if-t-eq2.true, c.field_of.ensures, c.field_of-then-t-eq2.ensures)
+
+pub returns : goal.returns
+unfolding part_shape
+returns c = simp (ne_eqb _ _ c.if-t-eq2.false)
