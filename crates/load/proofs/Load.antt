@@ -170,6 +170,7 @@ module _ (lower : List Row) (s : Row) (higher : List Row) where
 -- every bound is a fraction, and there is one for each row
 pub behind_ok : (lower rows : List Row) → AllOk (behind bound_of lower rows)
 unfolding behind
+behind_ok lower [] b x'' = elim x'' [ ]
 behind_ok lower (r ∷ rs) b (Memᴰ.head e) = rw e (bound_of_ok lower r rs)
 behind_ok lower (r ∷ rs) b (Memᴰ.tail m) = behind_ok (r ∷ lower) rs b m
 
@@ -194,6 +195,7 @@ bounds_of-length rows = behind_length [] rows
 behind_small : (M : ℕ) (lower rows : List Row) → ((r : Row) → Memᴰ r rows → (1 ≤ r.period) × (r.period ≤ M))
     → (b : Frac) → Memᴰ b (behind bound_of lower rows) → (b.num ≤ M) × (b.den ≤ M)
 unfolding behind
+behind_small M lower [] h b x'' = elim x'' [ ]
 behind_small M lower (r ∷ rs) h b (Memᴰ.head e) =
     let p = h r (Memᴰ.head refl) in
     let k = bound_of_small lower r rs p.0 in

@@ -3,12 +3,8 @@
 use mathlib.Core.Path.{refl}
 use Rattle.least.specs.Lists.{pad}
 use Rattle.load.specs.Weigh.{weighed}
-use Rattle.load.proofs.refused.Statement.{statement}
-use Rattle.load.proofs.refused.Tie as tie
+use Rattle.load.proofs.refused.Goals as goal
 
-returns : tie.Need-returns
+pub returns : goal.returns
 unfolding weighed pad
 returns c = refl
-
-pub refused_spec : {M : Type 1} → statement M
-refused_spec = tie.close (tie.spec returns)
