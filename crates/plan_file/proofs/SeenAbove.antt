@@ -17,7 +17,7 @@ use Rattle.plan_file.specs.Above.{FileLock, FileTask, FilePart, Above, no_part, 
 use Rattle.plan_file.specs.Reading.{is_part, is_end, part_names, locks_of}
 use Rattle.plan_file.specs.Code.Entries.{FineNames, FineSeen, none_seen, names_of, place_among, seen_part, seen_task, seen_lock, seen_end}
 use Rattle.plan_file.proofs.Places.{names_length}
-use Rattle.plan_file.proofs.SeenNames.{names_with, fine_with, no_names, fine_none}
+use Rattle.plan_file.proofs.SeenNames.{names_with, fine_with, no_names_lem, fine_none}
 use Rattle.plan_file.proofs.SeenTasks.{task_with}
 use Rattle.plan_file.proofs.SeenPart.{PartIs, stored_use, part_is_new, part_is_task, part_is_lock}
 
@@ -71,7 +71,7 @@ module _ (a : Above) where
 
 pub seen_is_start : (s : List ℕ) → SeenIs s none_seen nothing_above
 unfolding is_part is_end last_or
-seen_is_start s = record { fine_parts = fine_none; fresh = refl; ended = refl; part_names_is = no_names s; part = part_is_new s [] 0 }
+seen_is_start s = record { fine_parts = fine_none; fresh = refl; ended = refl; part_names_is = no_names_lem s; part = part_is_new s [] 0 }
 
 module _ (s : List ℕ) (seen : Seen) (a : Above) (is : SeenIs s seen a) where
   pub seen_is_part : (nm : Span) (P : List ℕ) → seen.parts.count < 16 → SeenIs s (seen_part seen nm) (after a (part (bytes_of s nm) P))

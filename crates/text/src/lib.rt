@@ -1,3 +1,2 @@
 // Bytes, lines, fields and numbers in base ten.
 #![tactic(auto)]
-

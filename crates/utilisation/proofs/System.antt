@@ -22,6 +22,8 @@ AtLeast r s = (1 ≤ r.period) × (r.period * s ≤ r.budget * slope_scale)
 -- such rows ask for at least these shares of any time
 demand_shares : (rows : List Row) (shares : List ℕ) → Each AtLeast rows shares → (t : ℕ) → sum shares * t ≤ slope_scale * demand_of rows t
 unfolding demand_of sum
+demand_shares [] (s ∷ shares) x'' t = elim x'' [ ]
+demand_shares (r ∷ rows) [] x3 t = elim x3 [ ]
 demand_shares [] [] none t = omega (arith, zero-mul t)
 demand_shares (r ∷ rows) (s ∷ shares) (more a rest) t =
     let n = ceil_div t r.period in
@@ -41,6 +43,8 @@ demand_shares (r ∷ rows) (s ∷ shares) (more a rest) t =
 
 pub rows_share : (rows : List Row) (shares : List ℕ) → Each AtLeast rows shares → passes_system rows ≡ true → sum shares ≤ slope_scale
 unfolding sum load_at greatest
+rows_share [] (s ∷ shares) x4 p = elim x4 [ ]
+rows_share (r ∷ rows) [] x4 p = elim x4 [ ]
 rows_share [] [] none p = omega arith
 rows_share (r ∷ rows) (s ∷ shares) (more a rest) p = at ((passes_paper (r ∷ rows)).0 p [] r rows refl)
   where

@@ -20,7 +20,7 @@ named c = named_by_tests (start c).args.allowed c.before.is_name.result _ c.befo
 
 -- behind question 6
 new : (c : tie.Else3) → let a = (start c.before.before).args in a.parts.count ≤ place_among (bytes_of a.s.now a.name) (names_of a.s.now a.parts)
-new c = rw (← c.before.IsPlace-in.ensures) c.if3.false
+new c = rw (← c.before.place_in.ensures) c.if3.false
 
 -- behind question 7
 number : (c : tie.After-known-told) → let a = (start c.before.before.before.before.before.before.before).args in NumberIs (bytes_of a.s.now a.period) c.before.p.given.0.0
@@ -45,7 +45,7 @@ place_in_requires : tie.Need-place-in-requires
 place_in_requires c κs = search rules
 
 returns_3 : tie.Need-returns-3
-returns_3 c = part_known _ _ _ _ _ _ (start c.before.before).requires (named c.before.before) (rw (← c.before.IsPlace-in.ensures) c.if3.true)
+returns_3 c = part_known _ _ _ _ _ _ (start c.before.before).requires (named c.before.before) (rw (← c.before.place_in.ensures) c.if3.true)
 
 bytes_requires_2 : tie.Need-bytes-requires-2
 bytes_requires_2 c κs = search rules

@@ -1,0 +1,10 @@
+-- `listing::ceiling_length` meets its contract.
+-- Assumes nothing.
+use native.Mathlib.Omega.{arith}
+use Rattle.listing.proofs.Lines.{ceiling_length}
+use Rattle.listing.proofs.ceiling_length.Goals as goal
+
+pub returns : goal.returns
+returns c =
+    let a = c.args in
+    (omega (arith, ceiling_length a.lock.now a.number, c.digit_count.ensures.0), omega arith)
