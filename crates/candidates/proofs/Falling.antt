@@ -43,6 +43,7 @@ insert_from {e} c (d ∷ ds) m =
     later (inr p) = inr (Memᴰ.tail p)
 
 insert_keeps : {e : Pair} (c : Pair) (ds : List Pair) → Memᴰ e ds → Memᴰ e (insert_by_x c ds)
+insert_keeps {e = e} c [] x' = elim x' [ ]
 insert_keeps {e} c (d ∷ ds) (Memᴰ.head q) =
     insert_cases (Memᴰ e) c d ds (λ k. Memᴰ.tail (Memᴰ.head q)) (λ k. Memᴰ.head q) (λ k. Memᴰ.head q)
 insert_keeps {e} c (d ∷ ds) (Memᴰ.tail m) =
@@ -79,11 +80,13 @@ in_falling_x_falls (c ∷ cs) = insert_falls c (in_falling_x cs) (in_falling_x_f
 
 pub in_falling_x_from : {c : Pair} (cs : List Pair) → Memᴰ c (in_falling_x cs) → Memᴰ c cs
 unfolding in_falling_x
+in_falling_x_from {c = c} [] m = elim m [ ]
 in_falling_x_from {c} (d ∷ ds) m =
     ⊎_elim (λ (q : c ≡ d). Memᴰ.head q) (λ (q : Memᴰ c (in_falling_x ds)). Memᴰ.tail (in_falling_x_from ds q)) (insert_from d (in_falling_x ds) m)
 
 pub in_falling_x_of : {c : Pair} (cs : List Pair) → ((d : Pair) → Memᴰ d cs → Only cs d) → Memᴰ c cs → Memᴰ c (in_falling_x cs)
 unfolding in_falling_x
+in_falling_x_of {c = c} [] only x'' = elim x'' [ ]
 in_falling_x_of {c} (d ∷ ds) only (Memᴰ.head q) =
     Memᴰ.cast q (insert_here d (in_falling_x ds) (λ e m. only d (Memᴰ.head refl) e (Memᴰ.tail (in_falling_x_from ds m))))
 in_falling_x_of {c} (d ∷ ds) only (Memᴰ.tail m) =
