@@ -6,7 +6,7 @@
 --   NameIs s k r    == r is the name of part k as that stretch of the lent file s
 -- Assumes nothing.
 use Rattle.std.specs.Prelude.{ℕ, ◌≡◌, List}
-use Rattle.std.specs.Borrow.{MutBor}
+use Rattle.std.specs.Borrow.{Bor}
 use Rattle.least.specs.Lists.{nth_or}
 use Rattle.refusal.specs.declared.Refusal.{Refusal}
 use Rattle.refusal.specs.declared.Outcome.TheVariants.{Done, Refused}
@@ -32,6 +32,6 @@ pub record StretchIs (s : List ℕ) (k : ℕ) (r : NameStretch) : Type 0 where
   pub is : r ≡ name_stretch s k
   pub bytes : bytes_of s r.span ≡ name_bytes (name_of s k)
 
-pub record NameIs (s : MutBor (List ℕ)) (k : ℕ) (r : MutBor (List ℕ)) : Type 0 where
+pub record NameIs (s : Bor (List ℕ)) (k : ℕ) (r : Bor (List ℕ)) : Type 0 where
   pub bytes : r.now ≡ name_bytes (name_of s.now k)
   pub stretch : StretchOf s (name_stretch s.now k).span r

@@ -90,6 +90,8 @@ module _ (f : PlanFile) (fine : FineParts f) where
 
   -- one row of each of these parts
   picked : (ks : List ℕ) → ((k : ℕ) → Memᴰ k ks → k < f.count) → (c : List Row) → Picks (map (part_rows f) ks) c → Each AtLeast c (map (λ k. share_in (tasks_of (part_in f k))) ks)
+  picked [] within (r ∷ c) x3 = elim x3 [ ]
+  picked (k ∷ ks) within [] x4 = elim x4 [ ]
   picked [] within [] none = none
   picked (k ∷ ks) within (r ∷ c) (more m rest) = more (row_share k (within k (Memᴰ.head refl)) r m) (picked ks (λ j q. within j (Memᴰ.tail q)) c rest)
 

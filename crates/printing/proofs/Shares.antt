@@ -57,15 +57,15 @@ module _ (s : List ℕ) (f : PlanFile) (rows : Rows) (bounds : List Frac) (cs : 
   parts_end k h = ap (λ (l : List Share). joined (map share_lines l)) (drop_of_length-le shares {i = k} (omega (arith, shares_count)))
 
   -- a load line shows the name and the bound only
-  load_at : (k : ℕ) → k < f.count → load_line (nth_or no_share (suc k) shares) ≡ load_line (named (bytes_of s (get_or f.parts k blank_part).name) (get_or bounds k no_frac))
+  load_at_lem : (k : ℕ) → k < f.count → load_line (nth_or no_share (suc k) shares) ≡ load_line (named (bytes_of s (get_or f.parts k blank_part).name) (get_or bounds k no_frac))
   unfolding load_line share_under named bare
-  load_at k h = ap load_line (nth_get no_share k shares ∙ share_at k h)
+  load_at_lem k h = ap load_line (nth_get no_share k shares ∙ share_at k h)
 
   -- the listing: its load line, then the parts
   pub listing_pieces : (row : ℕ) → 1 ≤ row → row ≤ f.count → listing_at row shares ≡ load_at row ++ lines_from 0
   unfolding listing_at
   listing_pieces zero a b = absurd (omega arith)
-  listing_pieces (suc k) a b = let q : suc k - 1 ≡ k = omega arith in rw q (ap (λ (l : List ℕ). l ++ lines_from 0) (load_at k (omega arith)))
+  listing_pieces (suc k) a b = let q : suc k - 1 ≡ k = omega arith in rw q (ap (λ (l : List ℕ). l ++ lines_from 0) (load_at_lem k (omega arith)))
 
   pub listing_length : (row : ℕ) → 1 ≤ row → row ≤ f.count → length (listing_at row shares) ≡ length (load_at row) + length (lines_from 0)
   listing_length row a b = ap length (listing_pieces row a b) ∙ length-append (load_at row) (lines_from 0)

@@ -1,0 +1,8 @@
+-- `planning::plan` meets its contract: the listing is asked for.
+-- Assumes nothing.
+use Rattle.planning.specs.Code.Chosen.{answer_of}
+use Rattle.planning.proofs.plan.Goals as goal
+
+pub returns : goal.returns
+unfolding answer_of
+returns c = c.answer.ensures

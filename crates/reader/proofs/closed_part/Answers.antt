@@ -1,0 +1,10 @@
+-- `reader::closed_part` meets its contract.
+-- Assumes nothing.
+use mathlib.Core.Path.{refl}
+use Rattle.least.specs.Lists.{pad}
+use Rattle.reader.specs.Code.Reader.{closed_part}
+use Rattle.reader.proofs.closed_part.Goals as goal
+
+pub returns : goal.returns
+unfolding closed_part pad
+returns c = refl
