@@ -40,6 +40,7 @@ record LockAt (σ : Setting) (l : ℕ) (names : List (List ℕ)) (c : Ceiling) :
 
 under_member : (σ : Setting) (l : ℕ) (names : List (List ℕ)) (c : Ceiling) → Memᴰ c (ceilings_under σ l names) → LockAt σ l names c
 unfolding ceilings_under
+under_member σ l [] c x' = elim x' [ ]
 under_member σ l (name ∷ names) c (Memᴰ.head e) = record {
   named = Memᴰ.head (ap (λ (x : Ceiling). x.lock) e);
   at = l;
@@ -82,6 +83,7 @@ module _ (p : PlanPart) (fine : FinePlanPart p) (s : Share) (h : PrintedShare p 
   }
 
 each_right : {A B : Type 0} {R : A → B → Type 0} {xs : List A} {ys : List B} (y : B) → Each R xs ys → Memᴰ y ys → (x : A) × Memᴰ x xs × R x y
+each_right {A = A} {B = B} {R = R} y Rattle.least.specs.Each.none x4 = elim x4 [ ]
 each_right {R = R} y (more {x = x} h hs) (Memᴰ.head e) = (x, Memᴰ.head refl, subst (R x) (sym e) h)
 each_right y (more h hs) (Memᴰ.tail m) = let r = each_right y hs m in (r.0, Memᴰ.tail r.1, r.2)
 
