@@ -127,6 +127,7 @@ only_share : {p : PlanPart} {shares : List Share} → Each AtTop (p ∷ []) shar
 only_share (more {y = u} h none) = (u, refl, h)
 
 two_shares : (p : PlanPart) (shares : List Share) → Each AtTop (p ∷ []) (drop 1 shares) → (s : Share) × (u : Share) × (shares ≡ s ∷ u ∷ []) × AtTop p u
+two_shares p [] h = elim h [ ]
 two_shares p (s ∷ shares) h = let o = only_share h in (s, o.0, ap (λ (l : List Share). s ∷ l) o.1, o.2)
 
 -- the last ceiling printed for it is 1, and the top is 2

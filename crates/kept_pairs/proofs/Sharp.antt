@@ -45,6 +45,7 @@ module _ (n : ℕ) where
 
   steps_from : (k : ℕ) (c : Pair) → Memᴰ c (steps k) → (m : ℕ) × (m < k) × (c ≡ step m)
   unfolding steps
+  steps_from zero c x' = elim x' [ ]
   steps_from (suc k) c (Memᴰ.head e) = (k, omega arith, e)
   steps_from (suc k) c (Memᴰ.tail q) = let h = steps_from k c q in (h.0, omega (arith, h.1), h.2)
 

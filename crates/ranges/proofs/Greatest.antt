@@ -91,6 +91,7 @@ module _ (s : List ℕ) (k : ℕ) (p : PlanPart) (d : PartOf s k p) where
     blocking_most = ⊎_elim (λ z. omega (arith, z)) (λ r. omega (arith, r.3, some lower r.0 r.2.below, held_most r.1 r.2.from r.2.to r.0 (of r.0 (Memᴰ.append_left (task ∷ above) r.2.below)))) (local_test.blocking p.numbers.locks σ lower).one
       where
         some : (xs : List Task) (x : Task) → Memᴰ x xs → 1 ≤ length xs
+        some mathlib.Core.List.[] x m = elim m [ ]
         some (y ∷ ys) x m = omega arith
 
     need_most : (t : ℕ) → t ≤ number_limit → task.cost + demand_in above t + blocking_of p.numbers.locks σ lower ≤ greatest_need number_limit
@@ -117,6 +118,7 @@ supply_most P Q t f = go (dec_le (t - (P - Q)) P)
 
 -- what a row above asks for: it may come in every tick only if its budget is one tick
 row_most : (t P Q X : ℕ) → 1 ≤ P → Q ≤ P → P ≤ number_limit → X ≤ number_limit → t ≤ number_limit → ceil_div t P * (Q + X) ≤ number_limit * (number_limit + 1)
+row_most t zero Q X a b c d h = elim a [ ]
 row_most t (suc zero) Q X a b c d h = product number_limit (number_limit + 1) (le_trans (ceil_le t 1 a) h) (omega arith)
 row_most t (suc (suc P)) Q X a b c d h =
     let n = ceil_div t (suc (suc P)) in
