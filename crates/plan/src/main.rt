@@ -2,12 +2,13 @@
 // prints no answer, and where the answer cannot be written it does not end in silence: one line on standard error says so.
 #![tactic(auto)]
 
-ghost use Rattle.std.specs.Prelude.{◌≡◌, ◌≤◌, ◌<◌, length, take, IfOk, IfSome, IfNone, OnOk, OnErr};
+ghost use Rattle.std.specs.Prelude.{◌≡◌, ◌+◌, ◌≤◌, ◌<◌, length, take, IfOk, IfSome, IfNone, OnOk, OnErr};
 ghost use Rattle.std.specs.Io.KnownBytes.{Appends, Consumes, IsAtEnd, Keeps};
+ghost use Rattle.console.specs.Printed.{printed_of};
 
 use refusal::FILE_LIMIT;
-use std::io;
 use std::io::{ErrorKind, Read, Write};
+use std::{fmt, io};
 use streams::Reason;
 use stretch::Span;
 
@@ -83,7 +84,9 @@ fn write_all<W: Write>(out: &mut W, buf: &[u8]) -> io::Result<()>
 }
 
 // Prints what is printed of a file.
-fn print_plan<W: Write>(out: &mut W, file: &[u8]) -> io::Result<()> {
+fn print_plan<W: Write>(out: &mut W, file: &[u8]) -> io::Result<()>
+    ensures { OnOk result (Appends (W.contents out.old) (W.contents out.new) (printed_of file.now)) }
+{
     let p = console::print(file);
     let span = Span {
         start: 0,
@@ -92,20 +95,35 @@ fn print_plan<W: Write>(out: &mut W, file: &[u8]) -> io::Result<()> {
     write_all(out, stretch::bytes(&p.text, span))
 }
 
-// One line on standard error: what could not be done, and why. Where it cannot be written nothing is left to say so.
-fn fail(rt: &impl Eprint, what: &str, error: &io::Error) {
-    let _ = eprintln!(rt; "plan: {what}: {}", Reason(error));
+// Why there is no answer.
+#[derive(Clone, Copy)]
+enum Failure {
+    Input(io::Error),
+    Answer(io::Error),
+}
+
+impl fmt::Display for Failure {
+    fn fmt<W: fmt::Write>(&self, f: &mut fmt::Formatter<W>) -> fmt::Result {
+        match self {
+            Failure::Input(e) => write!(f, "cannot read the input: {}", Reason(e)),
+            Failure::Answer(e) => write!(f, "cannot write the answer: {}", Reason(e)),
+        }
+    }
+}
+
+// Reads a file and prints what is printed of it. One byte more than a file may have is read, and no more: a longer one is refused whatever follows.
+fn run<R: Read, W: Write>(input: &mut R, out: &mut W) -> Result<(), Failure>
+    ensures { OnOk result (IfSome (R.remaining input.old)
+        (λ file. Appends (W.contents out.old) (W.contents out.new) (printed_of file))) }
+{
+    let mut file = [0u8; FILE_LIMIT + 1];
+    let n = read_all(input, &mut file).map_err(Failure::Input)?;
+    print_plan(out, &file[..n]).map_err(Failure::Answer)
 }
 
 fn main(rt: HostRuntime) {
-    // One byte more than a file may have: a longer one is refused whatever follows.
-    let mut file = [0u8; FILE_LIMIT + 1];
-    match read_all(&mut rt.stdin(), &mut file) {
-        Err(e) => fail(&rt, "cannot read the input", &e),
-        Ok(n) => {
-            if let Err(e) = print_plan(&mut rt.stdout(), &file[..n]) {
-                fail(&rt, "cannot write the answer", &e);
-            }
-        }
+    if let Err(e) = run(&mut rt.stdin(), &mut rt.stdout()) {
+        // Where this line cannot be written nothing is left to say so.
+        let _ = eprintln!(rt; "plan: {e}");
     }
 }
