@@ -18,7 +18,6 @@ use Rattle.stretch.specs.declared.Span.{Span}
 use Rattle.stretch.specs.Stretch.{bytes_of}
 use Rattle.records.specs.declared.Shape.{Shape}
 use Rattle.records.specs.declared.Shape.TheVariants.{Part as PartShape, Task as TaskShape, Lock as LockShape, End as EndShape, Unknown}
-use Rattle.records.specs.Records.Record.{part}
 use Rattle.records.specs.Code.Cursor.{record_as}
 use Rattle.task_set.specs.declared.Task.{Task as TaskNumbers}
 use Rattle.plan_file.specs.declared.Seen.{Seen}

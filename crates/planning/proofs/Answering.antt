@@ -35,15 +35,14 @@ use Rattle.plan_file.specs.Numbers.{PlanPart}
 use Rattle.plan_file.proofs.PlanParts.{parts_fine, parts_some}
 use Rattle.plan_file.proofs.Reading.{parts_answered_iff}
 use Rattle.reader.specs.declared.PlanFile.{PlanFile}
-use Rattle.reader.specs.Code.Reader.{parts_in, ReadIs}
+use Rattle.reader.specs.Code.Reader.{parts_in}
 use Rattle.reader.proofs.Handed.{parts_count}
 use Rattle.answers.specs.Parts.{shares_of}
-use Rattle.answers.specs.Answers.{plan_of, planned, buffer_after, HandedOver, PlanAnswered, listed_in}
+use Rattle.answers.specs.Answers.{plan_of, planned, buffer_after, PlanAnswered, listed_in}
 use Rattle.answers.specs.Plan.{Plan, plan_file, plan_text}
 use Rattle.answers.proofs.Handing.{refused_over}
 use Rattle.answers.proofs.ChartRows.{chart_unplanned}
 use Rattle.answers.proofs.PlanRows.{shares_bounds, listed_or_14}
-use Rattle.offers.specs.Code.Least.{plan_rows_from}
 use Rattle.printing.specs.Code.Printing.{listing_at, shares_in, ToPrint, EachFine, AllShownAre}
 use Rattle.printing.proofs.Ceilings.{shares_shown}
 use Rattle.planning.specs.Code.Chosen.{PlanIs, answer_of}

@@ -1,7 +1,7 @@
 -- `budget::least_budget` meets its contract. The invariant: the least budget is from low to high, and with no budget from low up to high is the need met
 -- before `begin`, nor with high before `time`.
 -- Assumes nothing.
-use Prim.Native.Nat.{suc, ◌-◌, ◌≤◌}
+use Prim.Native.Nat.{suc, ◌≤◌}
 use mathlib.Core.Path.{◌≡◌, sym, ◌∙◌}
 use mathlib.Core.List.{List}
 use native.Mathlib.Omega.{arith}

@@ -1,6 +1,5 @@
 -- `candidates::blocks_longer` meets its contract. The invariant: no task from `from` up to k is blocked for longer.
 -- Assumes nothing.
-use Prim.Native.Nat.{◌-◌}
 use native.Mathlib.Omega.{arith}
 use mathlib.Core.Path.{sym}
 use mathlib.Core.Bool.{false≢true}

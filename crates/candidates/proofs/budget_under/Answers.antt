@@ -5,7 +5,6 @@ use Prim.Native.Nat.{ℕ, ◌-◌, ◌≤◌, ◌<◌}
 use native.Mathlib.Omega.{arith}
 use mathlib.Core.Path.{◌≡◌}
 use mathlib.Core.List.{List}
-use mathlib.Core.Logic.{⊎_elim}
 use lib.ListN.{length}
 use Rattle.refusal.specs.Limits.{number_limit}
 use Rattle.task_set.specs.declared.Task.{Task}
@@ -61,7 +60,7 @@ task_budget-passed-requires c =
     let k = last (goal.at.task_budget-passed-requires c).After-t25-1 in
     let most = blocked_most (goal.at.task_budget-passed-requires c).After-t25-1 in
     elim c.if-costs-k.branch [
-      then-costs-k w ↦ rw w.time-is (c.requires.0, k, c.requires.1 _ k, omega arith, most, omega arith, omega arith, omega arith, λ t p h. absurd (omega arith))
+      | then-costs-k w ↦ rw w.time-is (c.requires.0, k, c.requires.1 _ k, omega arith, most, omega arith, omega arith, omega arith, λ t p h. absurd (omega arith))
       | else-costs-k w ↦
           rw w.time-is
           (c.requires.0, k, c.requires.1 _ k, omega arith, most, omega arith, omega arith, at.invariant.1.some, carried_below a.separations.now a.costs.now a.deadlines.now a.n a.period at.i at.budget at.above at.time b c.requires.0 (omega arith) at.invariant.1 w.if-costs-k.false)

@@ -1,7 +1,6 @@
 -- `candidates::budget_under` meets its contract. The invariant: from this budget on, the tasks that are left give the same answer; the places behind
 -- them hold the blockings; and the need of the task above them is not met before `time`.
 -- Assumes nothing.
-use Prim.Native.Nat.{◌-◌}
 use Rattle.task_set.specs.Code.ByColumn.{times_of}
 use Rattle.task_set.specs.Code.ByLock.{blocking_by}
 use Rattle.candidates.proofs.Budgets.{Lowered}

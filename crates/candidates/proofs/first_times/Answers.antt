@@ -1,9 +1,7 @@
 -- `candidates::first_times` meets its contract: each turn fills one place.
 -- Assumes nothing.
-use Prim.Native.Nat.{◌-◌}
 use native.Mathlib.Omega.{arith}
 use Rattle.least.proofs.Fill.{fill_start, fill_step}
-use Rattle.candidates.specs.Code.KeptSearch.{first_time}
 use Rattle.candidates.proofs.first_times.Goals as goal
 
 pub loop-j-init : goal.loop-j-init

@@ -1,9 +1,8 @@
 -- `candidates::is_to_test` meets its contract. The invariant: some blockings were tested, and no lock so far blocks a task for longer.
 -- Assumes nothing.
-use Prim.Native.Nat.{◌-◌}
 use native.Mathlib.Omega.{arith}
 use mathlib.Core.Path.{sym}
-use mathlib.Core.Bool.{false, false≢true}
+use mathlib.Core.Bool.{false≢true}
 use Rattle.candidates.proofs.Raises.{none_longer_next}
 use Rattle.candidates.proofs.is_to_test.Goals as goal
 

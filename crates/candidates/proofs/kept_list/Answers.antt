@@ -1,6 +1,5 @@
 -- `candidates::kept_list` meets its contract: each turn puts one more pair behind the list.
 -- Assumes nothing.
-use Prim.Native.Nat.{◌-◌}
 use native.Mathlib.Omega.{arith}
 use Rattle.candidates.proofs.Pairs.{kept_start, kept_step, kept_end}
 use Rattle.candidates.proofs.kept_list.Goals as goal

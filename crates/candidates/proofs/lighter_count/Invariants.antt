@@ -1,6 +1,6 @@
 -- `candidates::lighter_count` meets its contract. The invariant: no pair from `left` on has a sum below s.
 -- Assumes nothing.
-use Prim.Native.Nat.{ℕ, ◌-◌, ◌≤◌, ◌<◌}
+use Prim.Native.Nat.{ℕ, ◌≤◌, ◌<◌}
 use Rattle.candidates.specs.Code.KeptSearch.{sum_at}
 use Rattle.candidates.proofs.lighter_count.Given as goal
 

@@ -1,6 +1,6 @@
 -- `codes::name_code` meets its contract. The invariant: the bytes from i on are bytes of a name, and the number is theirs.
 -- Assumes nothing.
-use Prim.Native.Nat.{◌-◌, ◌≤◌}
+use Prim.Native.Nat.{◌≤◌}
 use mathlib.Core.Path.{◌≡◌}
 use mathlib.Core.Bool.{true}
 use lib.ListN.{length, drop}

@@ -1,6 +1,5 @@
 -- `codes::place_of` meets its contract. The invariant: the place is i more than the place among the numbers that are left.
 -- Assumes nothing.
-use Prim.Native.Nat.{◌-◌}
 use native.Mathlib.Nat.{zero-add}
 use native.Mathlib.Omega.{arith}
 use mathlib.Core.Path.{sym, ◌∙◌}

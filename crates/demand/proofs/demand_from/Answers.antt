@@ -1,6 +1,6 @@
 -- `demand::demand_from` meets its contract. The invariant: what is summed and what those from the place k on ask for make up the whole.
 -- Assumes nothing.
-use Prim.Native.Nat.{◌+◌, ◌-◌, ◌*◌, ◌≤◌}
+use Prim.Native.Nat.{◌+◌, ◌*◌, ◌≤◌}
 use mathlib.Core.Path.{◌≡◌}
 use lib.ListN.{get_or}
 use native.Mathlib.Numerals.{add-one}

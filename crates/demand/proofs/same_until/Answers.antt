@@ -1,6 +1,5 @@
 -- `demand::same_until` meets its contract. The invariant: the end is at most the next time of each task before the place k.
 -- Assumes nothing.
-use Prim.Native.Nat.{◌-◌}
 use native.Mathlib.Omega.{arith}
 use Rattle.demand.proofs.Stretch.{within_start, within_next, within_end}
 use Rattle.demand.proofs.same_until.Goals as goal

@@ -1,6 +1,6 @@
 -- `envelope::first_met` meets its contract. The invariant: the demand is met at no time from `start` on before t. A step and a jump keep it.
 -- Assumes nothing.
-use Prim.Native.Nat.{ℕ, ◌+◌, ◌-◌, ◌*◌, ◌≤◌}
+use Prim.Native.Nat.{ℕ, ◌+◌, ◌*◌, ◌≤◌}
 use mathlib.Core.Path.{◌≡◌, sym, ap, ◌∙◌}
 use native.Mathlib.Omega.{arith}
 use Rattle.least.specs.Round.{ceil_div}

@@ -1,7 +1,6 @@
 -- `envelope::line_from` meets its contract. The invariant: the line so far, with what those from the place k on ask for, is not above the whole.
 -- Assumes nothing.
-use Prim.Native.Nat.{suc, ◌+◌, ◌-◌, ◌*◌, ◌≤◌, ◌<◌}
-use mathlib.Core.Logic.{⊎_elim}
+use Prim.Native.Nat.{suc, ◌+◌, ◌*◌, ◌≤◌, ◌<◌}
 use lib.ListN.{get_or}
 use native.Mathlib.Numerals.{add-one}
 use native.Mathlib.Omega.{arith}
@@ -97,7 +96,7 @@ loop-k-preserved c =
     let at = c.loop-k in
     rw add-one
     (elim c.if-far-m.branch [
-      then-far-m w ↦
+      | then-far-m w ↦
           rw (w.fixed-is, w.slope-is)
           (under_fixed c.args.periods.now c.args.costs.now c.args.n c.args.s c.args.t c.requires.0 at.fixed at.slope at.k at.invariant c.loop-k-test.true c.releases-m.result c.releases-m.ensures)
       | else-far-m w ↦

@@ -1,6 +1,6 @@
 -- `envelope::no_earlier` meets its contract. The invariant: the demand is met at no time before `far`.
 -- Assumes nothing.
-use Prim.Native.Nat.{◌+◌, ◌-◌, ◌≤◌}
+use Prim.Native.Nat.{◌+◌, ◌≤◌}
 use native.Mathlib.Nat.{le_refl}
 use native.Mathlib.Omega.{arith}
 use Rattle.refusal.specs.Limits.{number_limit}

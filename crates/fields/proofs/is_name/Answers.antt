@@ -4,7 +4,6 @@ use native.Mathlib.Omega.{arith}
 use borrow.Author.Tests.{lt-leb, le-leb}
 use Rattle.fields.specs.Fields.{is_name, is_name_byte}
 use Rattle.fields.proofs.Bytewise.{every_more, every_stop, every_end}
-use Prim.Native.Nat.{◌-◌}
 use mathlib.Core.Path.{refl, ◌∙◌}
 use Rattle.fields.proofs.is_name.Goals as goal
 

@@ -1,6 +1,6 @@
 -- `hand_set::weigh_slice` meets its contract: each turn puts one row more into the struct, and what is weighed are the rows that have a place.
 -- Assumes nothing.
-use Prim.Native.Nat.{ℕ, ◌<◌, ◌≤◌, min}
+use Prim.Native.Nat.{ℕ, ◌<◌, min}
 use native.Mathlib.Omega.{arith}
 use mathlib.Core.Path.{◌≡◌, ap, ap₂, ◌∙◌}
 use lib.ListN.{length, take}

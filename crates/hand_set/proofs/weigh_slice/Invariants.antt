@@ -1,9 +1,8 @@
 -- The rows before the place i are in the struct.
 -- Assumes nothing.
-use Prim.Native.Nat.{◌-◌, ◌≤◌, min}
+use Prim.Native.Nat.{◌-◌, ◌≤◌}
 use mathlib.Core.Path.{◌≡◌}
 use lib.ListN.{length, take}
-use Rattle.refusal.specs.Limits.{row_limit}
 use Rattle.load.specs.Code.Weigh.{rows_from}
 use Rattle.hand_set.proofs.weigh_slice.Given as goal
 

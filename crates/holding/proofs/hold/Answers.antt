@@ -1,7 +1,7 @@
 -- `holding::hold` meets its contract. The invariant: no number below w is a solution. A step and a jump keep it, at rest w is the least, and past the limit
 -- there is none.
 -- Assumes nothing.
-use Prim.Native.Nat.{◌+◌, ◌-◌, ◌≤◌}
+use Prim.Native.Nat.{◌+◌, ◌≤◌}
 use mathlib.Core.Path.{◌≡◌, sym}
 use native.Mathlib.Omega.{arith}
 use mathlib.Core.List.{List}

@@ -1,6 +1,5 @@
 -- `holding::lowest_within` meets its contract. The invariant: the search from r on has come to the ceiling k and the time `start`.
 -- Assumes nothing.
-use Prim.Native.Nat.{◌-◌}
 use native.Mathlib.Omega.{arith}
 use mathlib.Core.Path.{◌≡◌, sym, ◌∙◌}
 use mathlib.Core.List.{List}

@@ -1,6 +1,5 @@
 -- `layout::clear` meets its contract. The invariant: the first y bytes are 0.
 -- Assumes nothing.
-use Prim.Native.Nat.{◌-◌}
 use native.Mathlib.Nat.{zero-add}
 use native.Mathlib.Omega.{arith}
 use mathlib.Core.Path.{refl}

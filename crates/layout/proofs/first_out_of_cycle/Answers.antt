@@ -1,6 +1,6 @@
 -- `layout::first_out_of_cycle` meets its contract. The invariant: the periods of the first k rows divide the ticks of a cycle.
 -- Assumes nothing.
-use Prim.Native.Nat.{◌-◌, ◌%◌}
+use Prim.Native.Nat.{◌%◌}
 use native.Mathlib.Omega.{arith}
 use native.Mathlib.Numerals.{add-one}
 use mathlib.Core.Path.{◌≡◌, sym, ap, ◌∙◌}

@@ -1,6 +1,6 @@
 -- `layout::lay_out` meets its contract. The invariant: the parts above the first k have their ticks.
 -- Assumes nothing.
-use Prim.Native.Nat.{◌-◌, ◌≤◌}
+use Prim.Native.Nat.{◌≤◌}
 use Rattle.load.specs.Weigh.{rows_of}
 use Rattle.layout.proofs.Laying.{LaidFrom}
 use Rattle.layout.proofs.lay_out.Given as goal

@@ -1,6 +1,5 @@
 -- `layout::place` meets its contract. The invariant: the part has its ticks of the periods before `from`, which is where one begins.
 -- Assumes nothing.
-use Prim.Native.Nat.{◌-◌}
 use native.Mathlib.Omega.{arith}
 use Rattle.layout.proofs.Placing.{periods_start, periods_next, periods_all}
 use Rattle.layout.proofs.place.Goals as goal

@@ -1,6 +1,6 @@
 -- `load::bound_of` meets its contract. The invariant: no time up to `last` is looked for, and the ratio is the least so far or sought.
 -- Assumes nothing.
-use Prim.Native.Nat.{◌+◌, ◌-◌, ◌<◌}
+use Prim.Native.Nat.{◌+◌, ◌<◌}
 use mathlib.Core.Path.{sym}
 use native.Mathlib.Omega.{arith}
 use Rattle.least.specs.Fraction.{frac}

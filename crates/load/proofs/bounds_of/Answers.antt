@@ -1,6 +1,5 @@
 -- `load::bounds_of` meets its contract. The invariant: the first s places hold their rows' bounds, and the row at the place s is blocked as `blocking` says.
 -- Assumes nothing.
-use Prim.Native.Nat.{◌-◌}
 use native.Mathlib.Omega.{arith}
 use mathlib.Core.Path.{sym, ap, ◌∙◌}
 use lib.Seq.{take_all}

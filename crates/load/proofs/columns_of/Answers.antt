@@ -1,10 +1,9 @@
 -- `load::columns_of` meets its contract: each turn fills one place of the three columns.
 -- Assumes nothing.
-use Prim.Native.Nat.{◌-◌, ◌<◌}
+use Prim.Native.Nat.{◌<◌}
 use native.Mathlib.Omega.{arith}
 use mathlib.Core.Path.{refl}
 use Rattle.least.proofs.Fill.{fill_start, fill_step}
-use Rattle.load.specs.Load.{row_sum}
 use Rattle.load.proofs.columns_of.Goals as goal
 
 pub loop-k-init : goal.loop-k-init

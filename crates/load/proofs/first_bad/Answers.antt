@@ -1,6 +1,5 @@
 -- `load::first_bad` meets its contract. The invariant: the first k rows may be weighed.
 -- Assumes nothing.
-use Prim.Native.Nat.{◌-◌}
 use native.Mathlib.Omega.{arith}
 use native.Mathlib.Numerals.{add-one}
 use mathlib.Core.Path.{sym, ap, ◌∙◌}

@@ -1,6 +1,5 @@
 -- `load::first_late` meets its contract. The invariant: behind each of the first k bounds there is a time.
 -- Assumes nothing.
-use Prim.Native.Nat.{◌-◌}
 use native.Mathlib.Omega.{arith}
 use native.Mathlib.Numerals.{add-one}
 use borrow.Author.Tests.{le-leb, lt-leb}

@@ -1,6 +1,6 @@
 -- `load::further` meets its contract. The invariant: the ratio so far is attained, or `here`, and m strides end within the period.
 -- Assumes nothing.
-use Prim.Native.Nat.{◌+◌, ◌-◌, ◌*◌, ◌≤◌}
+use Prim.Native.Nat.{◌+◌, ◌*◌, ◌≤◌}
 use Rattle.load.specs.Code.ByColumn.{LowerIs}
 use Rattle.load.proofs.further.Given as goal
 

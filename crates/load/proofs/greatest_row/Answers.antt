@@ -1,9 +1,8 @@
 -- `load::greatest_row` meets its contract. The invariant: j is the place of the first of k bounds that reaches their greatest.
 -- Assumes nothing.
-use Prim.Native.Nat.{ℕ, ◌-◌, ◌<◌}
+use Prim.Native.Nat.{ℕ, ◌<◌}
 use native.Mathlib.Omega.{arith}
 use native.Mathlib.Numerals.{add-one}
-use mathlib.Core.Logic.{⊎_elim}
 use mathlib.Core.Path.{◌≡◌, sym, ◌∙◌}
 use lib.ListN.{take, get_or}
 use Rattle.least.proofs.Fraction.{Ok, less_true, less_false, leads_start, leads_on, leads_over, leads_in}
@@ -34,7 +33,7 @@ loop-k-preserved c =
     let xs = c.args.bounds in
     let ok : (i : ℕ) → i < at.k → Ok (get_or xs i no_frac) = λ i h. record { some = (c.requires.0.each i (omega arith)).some } in (
       elim c.if-is_less.branch [
-        then-is_less w ↦ rw w.j-is (leads_over no_frac xs at.k at.j ok at.invariant.0 (less_true _ _ (sym c.is_less.ensures ∙ w.if-is_less.true)))
+        | then-is_less w ↦ rw w.j-is (leads_over no_frac xs at.k at.j ok at.invariant.0 (less_true _ _ (sym c.is_less.ensures ∙ w.if-is_less.true)))
         | else-is_less w ↦ rw w.j-is (leads_on no_frac xs at.k at.j at.invariant.0 (less_false _ _ (sym c.is_less.ensures ∙ w.if-is_less.false)))
       ],
       omega arith,

@@ -1,6 +1,6 @@
 -- `load::likely` meets its contract. The invariant: the ratio so far is attained, or 1/1.
 -- Assumes nothing.
-use Prim.Native.Nat.{◌-◌, ◌≤◌}
+use Prim.Native.Nat.{◌≤◌}
 use native.Mathlib.Nat.{div-mul-le_self}
 use native.Mathlib.Omega.{arith}
 use lib.ListN.{get_or}

@@ -3,7 +3,7 @@
 use native.Mathlib.Omega.{arith}
 use mathlib.Core.Path.{◌≡◌, sym, ◌∙◌}
 use mathlib.Core.Bool.{not}
-use lib.ListN.{length, length-map}
+use lib.ListN.{length}
 use Rattle.least.specs.Lists.{first_of}
 use Rattle.load.specs.Weigh.{row_in_range, rows_of}
 use Rattle.load.proofs.InRange.{all_in_range}

@@ -1,7 +1,7 @@
 -- `lock_line::use_at` meets its contract: a task has eight places for its locks.
 -- Assumes nothing.
-use mathlib.Core.Path.{◌≡◌, refl, sym, ◌∙◌}
-use lib.ListN.{length, length-map, get_or-eq_default}
+use mathlib.Core.Path.{◌≡◌, refl, sym}
+use lib.ListN.{length, get_or-eq_default}
 use native.Mathlib.Omega.{arith}
 use Rattle.plan_file.specs.Code.Entries.{use_at}
 use Rattle.lock_line.proofs.use_at.Goals as goal

@@ -1,7 +1,7 @@
 -- `offers::plan_rows` meets its contract: the first no among questions 10 and 11, or the rows of the choice that was selected. The invariants: the shares so far
 -- and those to come are all shares; and each turn gathers the kept list of one part.
 -- Assumes nothing.
-use Prim.Native.Nat.{ℕ, ◌-◌, ◌<◌}
+use Prim.Native.Nat.{ℕ, ◌<◌}
 use native.Mathlib.Numerals.{add-one}
 use native.Mathlib.Omega.{arith}
 use borrow.Author.Tests.{not-true, not-false}

@@ -1,6 +1,5 @@
 -- `offers::rows_by` meets its contract: each turn puts one more row behind those that stand there.
 -- Assumes nothing.
-use Prim.Native.Nat.{◌-◌}
 use native.Mathlib.Omega.{arith}
 use Rattle.offers.proofs.Choosing.{rows_start, rows_step, rows_end}
 use Rattle.offers.proofs.rows_by.Goals as goal

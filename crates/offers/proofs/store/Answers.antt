@@ -1,6 +1,5 @@
 -- `offers::store` meets its contract: each turn stores one pair.
 -- Assumes nothing.
-use Prim.Native.Nat.{◌-◌}
 use native.Mathlib.Omega.{arith}
 use mathlib.Core.Path.{◌≡◌, refl}
 use Rattle.least.proofs.Stores.{store_start, store_step, store_end}

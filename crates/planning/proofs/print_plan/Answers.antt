@@ -1,7 +1,7 @@
 -- `planning::print_plan` meets its contract: what is measured is the listing of the plan; it is written if it fits. The invariant: the ceilings of the first k
 -- parts stand at their places.
 -- Assumes nothing.
-use Prim.Native.Nat.{ℕ, ◌-◌, ◌≤◌}
+use Prim.Native.Nat.{ℕ, ◌≤◌}
 use mathlib.Core.List.{List}
 use native.Mathlib.Omega.{arith}
 use Rattle.printing.specs.Code.Printing.{AllShownAre}

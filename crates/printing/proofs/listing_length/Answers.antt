@@ -1,6 +1,5 @@
 -- `printing::listing_length` meets its contract. The invariant: the lines from the part k on are left to measure.
 -- Assumes nothing.
-use Prim.Native.Nat.{◌-◌}
 use native.Mathlib.Omega.{arith}
 use mathlib.Core.Path.{ap}
 use lib.ListN.{length}

@@ -1,6 +1,6 @@
 -- `printing::write_listing` meets its contract. The invariant: the lines from the part k on are left to write.
 -- Assumes nothing.
-use Prim.Native.Nat.{ℕ, ◌+◌, ◌-◌}
+use Prim.Native.Nat.{ℕ, ◌+◌}
 use native.Mathlib.Omega.{arith}
 use mathlib.Core.Path.{◌∙◌}
 use mathlib.Core.List.{List, ◌++◌}

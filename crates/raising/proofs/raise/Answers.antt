@@ -1,7 +1,7 @@
 -- `raising::raise` meets its contract. The invariant: the locks up to the place j have their next ceiling, the others still the old one, and
 -- what the hint says is so.
 -- Assumes nothing.
-use Prim.Native.Nat.{ℕ, ◌-◌, ◌<◌}
+use Prim.Native.Nat.{ℕ, ◌<◌}
 use native.Mathlib.Omega.{arith}
 use borrow.Author.Rules.{rules}
 use mathlib.Core.Path.{◌≡◌, sym, ap₂, ◌∙◌}

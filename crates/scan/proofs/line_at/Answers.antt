@@ -1,8 +1,6 @@
 -- `scan::line_at` meets its contract. The invariant: some tabs ts have been passed, and the line is the one whose rest begins at i.
 -- Assumes nothing.
-use Prim.Native.Nat.{◌-◌}
 use native.Mathlib.Omega.{arith}
-use mathlib.Core.Logic.{⊎_elim}
 use mathlib.Core.Path.{refl, sym, ap, ◌∙◌}
 use mathlib.Core.List.{[], ◌∷◌, ◌++◌}
 use Rattle.least.specs.Lists.{pad}
@@ -30,7 +28,7 @@ loop-i-preserved c =
     let s = c.args.s.now in (
       c.loop-i.invariant.0 ++ c.loop-i.i ∷ [],
       elim c.if-count-lt5.branch [
-        then-count-lt5 w ↦ rw (w.count-is, w.place-is) (five_stored _ _ c.loop-i.invariant.0 c.loop-i.i c.loop-i.invariant.1 (omega (arith, w.if-count-lt5.true)))
+        | then-count-lt5 w ↦ rw (w.count-is, w.place-is) (five_stored _ _ c.loop-i.invariant.0 c.loop-i.i c.loop-i.invariant.1 (omega (arith, w.if-count-lt5.true)))
         | else-count-lt5 w ↦ rw (w.count-is, w.place-is) (five_full _ _ c.loop-i.invariant.0 c.loop-i.i c.loop-i.invariant.1 w.if-count-lt5.false)
       ],
       c.loop-i.invariant.2 ∙ at_tab s c.loop-i.i c.loop-i.invariant.0 c.loop-i-test.true c.if-b-ne9.false,

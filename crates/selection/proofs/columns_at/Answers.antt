@@ -1,6 +1,6 @@
 -- `selection::columns_at` meets its contract: each turn fills one place of the two columns.
 -- Assumes nothing.
-use Prim.Native.Nat.{◌-◌, ◌<◌}
+use Prim.Native.Nat.{◌<◌}
 use mathlib.Core.Path.{refl}
 use native.Mathlib.Omega.{arith}
 use Rattle.least.proofs.Fill.{fill_start, fill_step}

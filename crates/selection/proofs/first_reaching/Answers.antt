@@ -1,7 +1,6 @@
 -- `selection::first_reaching` meets its contract. The invariant: the bound of every row before s is below `best`, and the row at the place s is blocked
 -- as `below` says.
 -- Assumes nothing.
-use Prim.Native.Nat.{◌-◌}
 use mathlib.Core.Path.{sym}
 use native.Mathlib.Omega.{arith}
 use Rattle.load.proofs.RowsBy.{blocking_none, blocking_next}

@@ -1,10 +1,9 @@
 -- `selection::heaviest` meets its contract. The invariant: the bound and the blocking are those of a row before s that reaches the greatest bound so far,
 -- and the row at the place s is blocked as `below` says.
 -- Assumes nothing.
-use Prim.Native.Nat.{◌+◌, ◌-◌, ◌<◌}
+use Prim.Native.Nat.{◌+◌, ◌<◌}
 use lib.ListN.{length}
 use native.Mathlib.Omega.{arith}
-use mathlib.Core.Logic.{⊎_elim}
 use Rattle.load.specs.Code.ByColumn.{rows_by}
 use Rattle.load.proofs.RowsBy.{rows_length, blocking_none, blocking_next}
 use Rattle.selection.proofs.Leading.{Ahead, ahead_as, ahead_start, ahead_stays, ahead_goes, ahead_fine, bound_is, reaches_true, reaches_false, heaviest_of_all}
@@ -81,7 +80,7 @@ joined c =
     let r = c.reaches in
     let long : at.s < length rows = omega (arith, rows_length a.periods.now a.sums.now a.holdings.now a.n) in
     elim c.if-reaches.branch [
-      then-reaches w ↦
+      | then-reaches w ↦
           ahead_as rows (at.s + 1) w.bound-is w.blocking-is
           (ahead_goes rows at.s at.bound at.blocking at.invariant.0 _ at.below (bound_is a.periods.now a.sums.now a.holdings.now a.n s.requires.0 at.s at.below _ h at.invariant.1 w.bound_of-bound-then-reaches.ensures) at.invariant.1 long (reaches_true a.periods.now a.sums.now a.holdings.now a.n s.requires.0 at.bound at.s at.below r.result h at.invariant.1 r.ensures w.if-reaches.true))
       | else-reaches w ↦

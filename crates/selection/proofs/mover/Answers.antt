@@ -1,6 +1,6 @@
 -- `selection::mover` meets its contract. The invariant: no part before j holds for x.
 -- Assumes nothing.
-use Prim.Native.Nat.{ℕ, ◌+◌, ◌-◌, ◌<◌}
+use Prim.Native.Nat.{ℕ, ◌+◌, ◌<◌}
 use mathlib.Core.Path.{◌≡◌, refl}
 use lib.ListN.{get_or}
 use native.Mathlib.Omega.{arith}

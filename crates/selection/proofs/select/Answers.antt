@@ -1,7 +1,6 @@
 -- `selection::select` meets its contract. The invariant: the descent has come to the places.
 -- Assumes nothing.
 use native.Mathlib.Omega.{arith}
-use mathlib.Core.Logic.{⊎_elim}
 use borrow.Author.Tests.{not-true, not-false}
 use Rattle.selection.proofs.Selecting.{selecting_starts, places_fine, Turn, turn_places, turn_columns, Turned, turned_as, turn_stays, turn_records, turn_ends, turn_moves, turn_fewer}
 use Rattle.selection.proofs.select.Goals as goal
@@ -51,7 +50,7 @@ turned c =
     let t = turn_at c in
     let e = c.first_reaching-stuck in
     elim c.if-not-stuck.branch [
-      then-not-stuck w ↦ turned_as (Turned t) w.best-is w.sums-is w.held-is w.blocking-is (turn_records t e.result e.ensures (not-true _ w.if-not-stuck.true) w.heaviest-weight.result w.heaviest-weight.ensures)
+      | then-not-stuck w ↦ turned_as (Turned t) w.best-is w.sums-is w.held-is w.blocking-is (turn_records t e.result e.ensures (not-true _ w.if-not-stuck.true) w.heaviest-weight.result w.heaviest-weight.ensures)
       | else-not-stuck w ↦ turned_as (Turned t) w.best-is w.sums-is w.held-is w.blocking-is (turn_stays t e.result e.ensures (not-false _ w.if-not-stuck.false))
     ]
 

@@ -1,6 +1,5 @@
 -- `sharing::is_shared` meets its contract. The invariant: with those among the places that are left, the parts found so far are all that name the lock.
 -- Assumes nothing.
-use Prim.Native.Nat.{◌-◌}
 use native.Mathlib.Omega.{arith}
 use mathlib.Core.Path.{sym, ◌∙◌}
 use Rattle.sharing.specs.Code.Sharing.{names_it}

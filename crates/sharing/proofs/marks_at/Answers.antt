@@ -1,6 +1,5 @@
 -- `sharing::marks_at` meets its contract: each turn fills one place.
 -- Assumes nothing.
-use Prim.Native.Nat.{◌-◌}
 use native.Mathlib.Omega.{arith}
 use mathlib.Core.Path.{◌≡◌, subst}
 use mathlib.Core.Bool.{false}

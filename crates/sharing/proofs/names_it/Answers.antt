@@ -1,6 +1,5 @@
 -- `sharing::names_it` meets its contract. The invariant: no place so far has the number.
 -- Assumes nothing.
-use Prim.Native.Nat.{◌-◌}
 use native.Mathlib.Omega.{arith}
 use mathlib.Core.Path.{sym}
 use borrow.Author.Tests.{eq-eqb, ne_eqb}

@@ -1,6 +1,5 @@
 -- `sharing::put_codes` meets its contract: each turn stores one number.
 -- Assumes nothing.
-use Prim.Native.Nat.{◌-◌}
 use native.Mathlib.Omega.{arith}
 use mathlib.Core.Path.{ap, ◌∙◌}
 use Rattle.least.proofs.Stores.{store_start, store_step, store_end}

@@ -1,6 +1,6 @@
 -- `shown::show_ceilings` meets its contract: each turn fills one place, and what the hint says is so.
 -- Assumes nothing.
-use Prim.Native.Nat.{suc, ◌-◌, ◌<◌}
+use Prim.Native.Nat.{suc, ◌<◌}
 use native.Mathlib.Omega.{arith}
 use mathlib.Core.Path.{ap, ◌∙◌}
 use Rattle.least.proofs.Stores.{store_start, store_step, store_end}

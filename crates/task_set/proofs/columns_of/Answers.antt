@@ -1,6 +1,5 @@
 -- `task_set::columns_of` meets its contract: each turn fills one place of the three columns.
 -- Assumes nothing.
-use Prim.Native.Nat.{◌-◌}
 use native.Mathlib.Omega.{arith}
 use mathlib.Core.Path.{refl}
 use Rattle.least.proofs.Fill.{fill_start, fill_step}

@@ -1,6 +1,5 @@
 -- `task_set::locks_of` meets its contract: each turn of the inner loop counts a task in one lock, each of the outer in all of them.
 -- Assumes nothing.
-use Prim.Native.Nat.{◌-◌}
 use native.Mathlib.Omega.{arith}
 use Rattle.task_set.proofs.Walk.{walked_start, walked_step, walked_next, walked_end}
 use Rattle.task_set.proofs.locks_of.Goals as goal

@@ -6,7 +6,7 @@ use native.Mathlib.Omega.{arith}
 use mathlib.Core.Path.{◌≡◌, refl}
 use mathlib.Core.List.{List}
 use Rattle.least.proofs.Greatest.{greatest_from, greatest_past}
-use Rattle.task_set.specs.Code.ByLock.{blocked_for, blocking_by}
+use Rattle.task_set.specs.Code.ByLock.{blocking_by}
 use Rattle.task_set.proofs.longest_blocked.Goals as goal
 use Rattle.task_set.proofs.longest_blocked.Invariants.{by, left}
 

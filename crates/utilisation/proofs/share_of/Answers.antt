@@ -1,6 +1,6 @@
 -- `utilisation::share_of` meets its contract. The invariant: what is summed and the share of the tasks from the place k on make up the whole.
 -- Assumes nothing.
-use Prim.Native.Nat.{ℕ, ◌-◌, ◌≤◌, ◌<◌}
+use Prim.Native.Nat.{ℕ, ◌≤◌, ◌<◌}
 use native.Mathlib.Numerals.{add-one}
 use native.Mathlib.Omega.{arith}
 use lib.ListN.{get_or}

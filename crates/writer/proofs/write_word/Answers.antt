@@ -1,6 +1,6 @@
 -- `writer::write_word` meets its contract. The invariant: the bytes of the word that are left, written behind the others, give the whole.
 -- Assumes nothing.
-use Prim.Native.Nat.{ℕ, ◌-◌}
+use Prim.Native.Nat.{ℕ}
 use mathlib.Core.Path.{sym, subst}
 use native.Mathlib.Omega.{arith}
 use native.Mathlib.Nat.{add-zero}
