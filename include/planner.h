@@ -1,5 +1,5 @@
 /* The planner's six operations, for C and C++ on x86-64 Linux: link
- * target/staticlib/libplanner_c.a, which `rt staticlib planner_c` writes.
+ * target/staticlib/libplanner_c.a, which `scripts/build library` writes.
  *
  * Any bytes, any numbers: an answer has number and place 0, or those of a refusal (README.md,
  * "Refusals"). With a refusal every other number is 0, and no byte of `out` is written.

@@ -1,42 +1,38 @@
 // What the program prints of each file that the arguments name, behind a line with its name: 'stdout' has what that should be.
 #![tactic(auto)]
 
-use libc::STDOUT_FILENO;
 use refusal::FILE_LIMIT;
+use std::fs::File;
+use std::io::Read;
+use std::rt::Files;
+use std::{env, io};
+use streams::Reason;
 use stretch::Span;
 
-fn print_answer(fd: i32) {
+fn print_answer(rt: &impl Print, input: &mut impl Read) -> io::Result<()> {
     let mut file = [0u8; FILE_LIMIT + 1];
-    let n = io::read_full(fd, &mut file);
+    let n = streams::read_full(input, &mut file);
     let p = console::print(&file[..n]);
-    let text = p.text;
     let span = Span {
         start: 0,
         len: p.count,
     };
-    io::write_all(STDOUT_FILENO, stretch::bytes(&text, span));
+    rt.write_all(stretch::bytes(&p.text, span))
 }
 
-fn each(i: usize) {
-    let mut path = io::buffer();
-    let length = os::arg(i, &mut path);
-    let fd = os::open_read(&path[..length]);
-    if fd < 0 {
-        os::fail(&path[..length]);
-        return;
+fn each(rt: &(impl Files + Print + Eprint), path: &str) -> io::Result<()> {
+    match File::open(rt, path) {
+        Ok(mut file) => {
+            println!(rt; "== {path}")?;
+            print_answer(rt, &mut file)
+        }
+        Err(e) => eprintln!(rt; "{path}: {}", Reason(&e)),
     }
-    io::write_all(STDOUT_FILENO, b"== ");
-    io::write_all(STDOUT_FILENO, &path[..length]);
-    io::write_all(STDOUT_FILENO, b"\n");
-    print_answer(fd);
-    libc::close(fd);
 }
 
-fn main() {
-    let n = os::arg_count();
-    let mut i = 1;
-    while i < n {
-        each(i);
-        i += 1;
+fn main(rt: HostRuntime) -> io::Result<()> {
+    for path in env::args(&rt)?.skip(1) {
+        each(&rt, path.as_str())?;
     }
+    Ok(())
 }

@@ -3,84 +3,76 @@
 // it was. 'stdout' has what that should be.
 #![tactic(auto)]
 
-use libc::STDOUT_FILENO;
 use refusal::{CYCLE, FILE_LIMIT};
+use std::fs::File;
+use std::io::Read;
+use std::rt::Files;
+use std::{env, io};
+use streams::Reason;
 use stretch::Span;
 
-fn print_tick(part: u8) {
+fn print_tick(rt: &impl Print, part: u8) -> io::Result<()> {
     let letters: &[u8] = b".123456789abcdefg#";
     let span = Span {
         start: part as usize,
         len: 1,
     };
-    io::write_all(STDOUT_FILENO, stretch::bytes(letters, span));
+    rt.write_all(stretch::bytes(letters, span))
 }
 
-fn print_lent(lent: &[u8]) {
-    let mut i = 0;
-    while i < lent.len() {
+fn print_lent(rt: &impl Print, lent: &[u8]) -> io::Result<()> {
+    for (i, part) in lent.iter().enumerate() {
         if i % 60 == 0 {
-            io::write_all(STDOUT_FILENO, b"\n");
+            println!(rt)?;
         }
-        print_tick(lent[i]);
-        i += 1;
+        print_tick(rt, *part)?;
     }
-    io::write_all(STDOUT_FILENO, b"\n");
+    println!(rt)
 }
 
-fn print_chart(file: &[u8], out: &mut [u8]) {
+fn print_chart(rt: &impl Print, file: &[u8], out: &mut [u8]) -> io::Result<()> {
     let p = planner::chart(file, out);
-    let o = p.outcome;
-    io::print_decimal(STDOUT_FILENO, planner::number(o));
-    io::write_all(STDOUT_FILENO, b"\t");
-    io::print_decimal(STDOUT_FILENO, planner::place(o));
-    io::write_all(STDOUT_FILENO, b"\t");
-    io::print_decimal(STDOUT_FILENO, p.written as u64);
-    print_lent(out);
+    let number = planner::number(p.outcome);
+    let place = planner::place(p.outcome);
+    let written = p.written;
+    print!(rt; "{number}\t{place}\t{written}")?;
+    print_lent(rt, out)
 }
 
-fn print_file(fd: i32) {
+fn print_file(rt: &impl Print, input: &mut impl Read) -> io::Result<()> {
     let mut file = [0u8; FILE_LIMIT + 1];
-    let n = io::read_full(fd, &mut file);
+    let n = streams::read_full(input, &mut file);
     let mut out = [17u8; CYCLE + 1];
-    print_chart(&file[..n], &mut out);
+    print_chart(rt, &file[..n], &mut out)
 }
 
-fn print_rooms() {
+fn print_rooms(rt: &impl Print) -> io::Result<()> {
     let one: &[u8] = b"part\tp\t10\ntask\tt\t10\t10\t10\nend\n";
     let mut none = [17u8; 0];
-    print_chart(one, &mut none);
+    print_chart(rt, one, &mut none)?;
     let mut short = [17u8; CYCLE - 1];
-    print_chart(one, &mut short);
+    print_chart(rt, one, &mut short)?;
     let mut enough = [17u8; CYCLE];
-    print_chart(one, &mut enough);
+    print_chart(rt, one, &mut enough)?;
     let mut more = [17u8; CYCLE + 60];
-    print_chart(one, &mut more);
+    print_chart(rt, one, &mut more)?;
     let mut nothing = [17u8; 0];
-    print_chart(b"part\tp\t7\ntask\tt\t70\t1\t70\nend\n", &mut nothing);
+    print_chart(rt, b"part\tp\t7\ntask\tt\t70\t1\t70\nend\n", &mut nothing)
 }
 
-fn each(i: usize) {
-    let mut path = io::buffer();
-    let length = os::arg(i, &mut path);
-    let fd = os::open_read(&path[..length]);
-    if fd < 0 {
-        os::fail(&path[..length]);
-        return;
+fn each(rt: &(impl Files + Print + Eprint), path: &str) -> io::Result<()> {
+    match File::open(rt, path) {
+        Ok(mut file) => {
+            println!(rt; "== {path}")?;
+            print_file(rt, &mut file)
+        }
+        Err(e) => eprintln!(rt; "{path}: {}", Reason(&e)),
     }
-    io::write_all(STDOUT_FILENO, b"== ");
-    io::write_all(STDOUT_FILENO, &path[..length]);
-    io::write_all(STDOUT_FILENO, b"\n");
-    print_file(fd);
-    libc::close(fd);
 }
 
-fn main() {
-    let n = os::arg_count();
-    let mut i = 1;
-    while i < n {
-        each(i);
-        i += 1;
+fn main(rt: HostRuntime) -> io::Result<()> {
+    for path in env::args(&rt)?.skip(1) {
+        each(&rt, path.as_str())?;
     }
-    print_rooms();
+    print_rooms(&rt)
 }

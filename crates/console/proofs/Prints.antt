@@ -82,3 +82,13 @@ module _ (s : List ℕ) (p : Planned) (after : List ℕ) (h : PlanAnswered s zer
       let o : p.outcome ≡ (planned (plan_of s program_room)).outcome = ap (λ (q : Planned). q.outcome) answer_is in
       refused_printed (plan_of s program_room) r (sym o ∙ e) n k (n-is ∙ ap number_of o) (k-is ∙ ap place_of o) (omega (arith, refusal_short n k n-fits k-fits)) last count
       (subst (λ (l : List ℕ). Written 0 (refused_line n k) l last count) buffer_is w)
+
+-- the bytes that a plan counts lie within the lent ones
+planned_within : (a : Answer (List ℕ)) (room : ℕ) → ((text : List ℕ) → a ≡ answered text → length text ≤ room) → (planned a).written ≤ room
+unfolding planned
+planned_within (answered text) room fits = fits text refl
+planned_within (refused r) room fits = omega arith
+
+pub plan_within : (s before : List ℕ) (p : Planned) (after : List ℕ) → PlanAnswered s before p after → p.written ≤ length before
+plan_within s before p after h =
+    subst (λ (q : Planned). q.written ≤ length before) (sym h.result) (planned_within (plan_of s (length before)) (length before) (plan_fits s (length before)))

@@ -1,7 +1,7 @@
 // What the program prints of a file, byte for byte: its listing, or the line of its refusal.
 #![tactic(auto)]
 
-ghost use Rattle.std.specs.Prelude.{◌≡◌};
+ghost use Rattle.std.specs.Prelude.{◌≡◌, ◌≤◌, length};
 ghost use Rattle.console.specs.Printed.{printed_of, printed};
 
 use refusal::Outcome;
@@ -15,7 +15,8 @@ pub struct Printed {
 
 // What is printed of a file.
 pub fn print(file: &[u8]) -> Printed
-    ensures { result ≡ printed (printed_of file.now) }
+    ensures bytes { result ≡ printed (printed_of file.now) }
+    ensures room { result.count ≤ 8192 }
 {
     let mut out = [0u8; 8192];
     let p = planner::plan(file, &mut out);

@@ -2,82 +2,62 @@
 // the answer, then the pairs Q,X. 'stdout' has what the figures of the documents say.
 #![tactic(auto)]
 
-use libc::STDOUT_FILENO;
 use planner::Kept;
-use refusal::{FILE_LIMIT, KEPT_LIMIT, PART_LIMIT};
+use refusal::{FILE_LIMIT, PART_LIMIT};
+use std::fs::File;
+use std::io::Read;
+use std::rt::Files;
+use std::{env, io};
+use streams::Reason;
 
-fn print_pairs(kept: Kept) {
-    let count = kept.count;
-    let mut i = 0;
-    while i < KEPT_LIMIT {
-        if count <= i {
-            return;
-        }
-        let pair = kept.pairs[i];
-        io::write_all(STDOUT_FILENO, b"\t");
-        io::print_decimal(STDOUT_FILENO, pair.budget);
-        io::write_all(STDOUT_FILENO, b",");
-        io::print_decimal(STDOUT_FILENO, pair.holding);
-        i += 1;
+fn print_pairs(rt: &impl Print, kept: Kept) -> io::Result<()> {
+    for pair in kept.pairs.iter().take(kept.count) {
+        print!(rt; "\t{},{}", pair.budget, pair.holding)?;
     }
+    Ok(())
 }
 
 // One part; false where the file has no such part.
-fn print_part(name: &[u8], file: &[u8], part: usize) -> bool {
+fn print_part(rt: &impl Print, name: &str, file: &[u8], part: usize) -> io::Result<bool> {
     let a = planner::candidates(file, part);
-    let o = a.outcome;
-    let number = planner::number(o);
+    let number = planner::number(a.outcome);
     if number == 12 {
-        return false;
+        return Ok(false);
     }
-    io::write_all(STDOUT_FILENO, name);
-    io::write_all(STDOUT_FILENO, b"\t");
-    io::print_decimal(STDOUT_FILENO, part as u64);
-    io::write_all(STDOUT_FILENO, b"\t");
-    io::write_all(STDOUT_FILENO, planner::name(file, part));
-    io::write_all(STDOUT_FILENO, b"\t");
-    io::print_decimal(STDOUT_FILENO, number);
-    io::write_all(STDOUT_FILENO, b"\t");
-    io::print_decimal(STDOUT_FILENO, planner::place(o));
-    let kept = a.kept;
-    print_pairs(kept);
-    io::write_all(STDOUT_FILENO, b"\n");
-    true
+    print!(rt; "{name}\t{part}\t")?;
+    rt.write_all(planner::name(file, part))?;
+    let place = planner::place(a.outcome);
+    print!(rt; "\t{number}\t{place}")?;
+    print_pairs(rt, a.kept)?;
+    println!(rt)?;
+    Ok(true)
 }
 
-fn print_parts(name: &[u8], file: &[u8]) {
-    let mut part = 1;
-    while part <= PART_LIMIT {
-        if !print_part(name, file, part) {
-            return;
+fn print_parts(rt: &impl Print, name: &str, file: &[u8]) -> io::Result<()> {
+    for part in 1..=PART_LIMIT {
+        if !print_part(rt, name, file, part)? {
+            return Ok(());
         }
-        part += 1;
     }
+    Ok(())
 }
 
-fn print_file(name: &[u8], fd: i32) {
+fn print_file(rt: &impl Print, name: &str, input: &mut impl Read) -> io::Result<()> {
     let mut file = [0u8; FILE_LIMIT + 1];
-    let n = io::read_full(fd, &mut file);
-    print_parts(name, &file[..n]);
+    let n = streams::read_full(input, &mut file);
+    print_parts(rt, name, &file[..n])
 }
 
-fn each(i: usize) {
-    let mut path = io::buffer();
-    let length = os::arg(i, &mut path);
-    let fd = os::open_read(&path[..length]);
-    if fd < 0 {
-        os::fail(&path[..length]);
-        return;
+fn each(rt: &(impl Files + Print + Eprint), path: &str) -> io::Result<()> {
+    match File::open(rt, path) {
+        Ok(mut file) => print_file(rt, path, &mut file),
+        Err(e) => eprintln!(rt; "{path}: {}", Reason(&e)),
     }
-    print_file(&path[..length], fd);
-    libc::close(fd);
 }
 
-fn main() {
-    let n = os::arg_count();
-    let mut i = 1;
-    while i < n {
-        each(i);
-        i += 1;
+fn main(rt: HostRuntime) -> io::Result<()> {
+    for path in env::args(&rt)?.skip(1) {
+        each(&rt, path.as_str())?;
     }
+    Ok(())
 }

@@ -2,113 +2,128 @@
 // prints no answer, and where the answer cannot be written it does not end in silence: one line on standard error says so.
 #![tactic(auto)]
 
-ghost use Rattle.std.specs.Prelude.{◌≤◌, length};
-ghost use Rattle.io.specs.Counts.{IsPrefixLen};
+ghost use Rattle.std.specs.Prelude.{◌≡◌, ◌+◌, ◌≤◌, ◌<◌, length, take, IfOk, IfSome, IfNone, OnOk, OnErr};
+ghost use Rattle.std.specs.Io.KnownBytes.{Appends, Consumes, IsAtEnd, Keeps};
+ghost use Rattle.console.specs.Printed.{printed_of};
 
-use libc::{STDIN_FILENO, STDOUT_FILENO};
 use refusal::FILE_LIMIT;
+use std::io::{ErrorKind, Read, Write};
+use std::{fmt, io};
+use streams::Reason;
 use stretch::Span;
 
-// What one call of read has brought: some bytes, the end of the input, a failure, or nothing, where a signal interrupted it.
-#[derive(Clone, Copy)]
-struct Got {
-    count: usize,
-    is_end: bool,
-    is_failed: bool,
-}
-
-fn read_some(fd: i32, buf: &mut [u8]) -> Got
-    ensures { result.count ≤ length buf.old }
+// One call of read: how many bytes it brought, none at the end of the input; `None` where a signal interrupted it.
+fn read_some<R: Read>(input: &mut R, buf: &mut [u8]) -> io::Result<Option<usize>>
+    ensures in_bounds { IfOk result (λ got. IfSome got (λ n. n ≤ length buf.new)) }
+    ensures brought { IfOk result (λ got. IfSome got (λ n. Consumes (R.remaining input.old) (R.remaining input.new) (take n buf.new))) }
+    ensures end { IfOk result (λ got. IfSome got (λ n. n ≡ 0 → 0 < length buf.new → IsAtEnd (R.remaining input.new))) }
+    ensures interrupted { IfOk result (λ got. IfNone got (Keeps (R.remaining input.old) (R.remaining input.new))) }
+    ensures failed { OnErr result (Keeps (R.remaining input.old) (R.remaining input.new)) }
 {
-    let got = libc::read(fd, buf);
-    let count = io::count(got, buf);
-    Got {
-        count,
-        is_end: got == 0,
-        is_failed: got < 0 && os::errno() != libc::EINTR,
+    match input.read(buf) {
+        Ok(count) => Ok(Some(count)),
+        Err(e) if e.kind() == ErrorKind::Interrupted => Ok(None),
+        Err(e) => Err(e),
     }
 }
 
-// How many bytes were read, and whether they are all: the input has ended, or the buffer is full.
-#[derive(Clone, Copy)]
-struct Input {
-    count: usize,
-    is_whole: bool,
-}
-
-// Reads until the input ends or the buffer is full, however few bytes a call brings.
-fn read_all(fd: i32, buf: &mut [u8]) -> Input
-    ensures { IsPrefixLen result.count buf.new }
+// Reads until the input ends or the buffer is full, however few bytes a call brings, and answers how many bytes it put at the start of the buffer.
+fn read_all<R: Read>(input: &mut R, buf: &mut [u8]) -> io::Result<usize>
+    ensures in_bounds { IfOk result (λ n. n ≤ length buf.new) }
+    ensures bytes { IfOk result (λ n. Consumes (R.remaining input.old) (R.remaining input.new) (take n buf.new)) }
+    ensures whole { IfOk result (λ n. n < length buf.new → IsAtEnd (R.remaining input.new)) }
 {
     let mut done = 0;
-    let mut is_end = false;
-    let mut is_failed = false;
     // A proved loop has to end, and nothing says that an input does: no run uses up so many calls.
-    let mut calls = u64::MAX;
-    while done < buf.len() && calls > 0 && !is_end && !is_failed {
-        calls -= 1;
-        let got = read_some(fd, &mut buf[done..]);
-        done += got.count;
-        is_end = got.is_end;
-        is_failed = got.is_failed;
+    for _ in 0..u64::MAX {
+        if done == buf.len() {
+            return Ok(done);
+        }
+        let Some(count) = read_some(input, &mut buf[done..])? else {
+            continue;
+        };
+        if count == 0 {
+            return Ok(done);
+        }
+        done += count;
     }
-    Input {
-        count: done,
-        is_whole: is_end || done == buf.len(),
-    }
+    Err(io::Error::from(ErrorKind::TimedOut))
 }
 
-// What one call of write has taken: some bytes, or none, where it failed or a signal interrupted it.
-#[derive(Clone, Copy)]
-struct Put {
-    count: usize,
-    is_failed: bool,
-}
-
-fn write_some(fd: i32, buf: &[u8]) -> Put
-    ensures { result.count ≤ length buf.now }
+// One call of write: how many bytes it took; `None` where a signal interrupted it.
+fn write_some<W: Write>(out: &mut W, buf: &[u8]) -> io::Result<Option<usize>>
+    ensures in_bounds { IfOk result (λ put. IfSome put (λ n. n ≤ length buf.now)) }
+    ensures taken { IfOk result (λ put. IfSome put (λ n. Appends (W.contents out.old) (W.contents out.new) (take n buf.now))) }
+    ensures interrupted { IfOk result (λ put. IfNone put (Keeps (W.contents out.old) (W.contents out.new))) }
+    ensures failed { OnErr result (Keeps (W.contents out.old) (W.contents out.new)) }
 {
-    let put = libc::write(fd, buf);
-    let count = io::count(put, buf);
-    Put {
-        count,
-        is_failed: put == 0 || put < 0 && os::errno() != libc::EINTR,
+    match out.write(buf) {
+        Ok(0) => Err(io::Error::from(ErrorKind::WriteZero)),
+        Ok(count) => Ok(Some(count)),
+        Err(e) if e.kind() == ErrorKind::Interrupted => Ok(None),
+        Err(e) => Err(e),
     }
 }
 
-// Writes all of the bytes, however few a call takes, and answers whether it could.
-fn write_all(fd: i32, buf: &[u8]) -> bool {
-    let mut done = 0;
-    let mut is_failed = false;
+// Writes all of the bytes, however few a call takes.
+fn write_all<W: Write>(out: &mut W, buf: &[u8]) -> io::Result<()>
+    ensures { OnOk result (Appends (W.contents out.old) (W.contents out.new) buf.now) }
+{
+    let mut rest = buf;
     // No run uses up so many calls.
-    let mut calls = u64::MAX;
-    while done < buf.len() && calls > 0 && !is_failed {
-        calls -= 1;
-        let put = write_some(fd, &buf[done..]);
-        done += put.count;
-        is_failed = put.is_failed;
+    for _ in 0..u64::MAX {
+        if rest.is_empty() {
+            return Ok(());
+        }
+        let Some(count) = write_some(out, rest)? else {
+            continue;
+        };
+        rest = &rest[count..];
     }
-    done == buf.len()
+    Err(io::Error::from(ErrorKind::TimedOut))
 }
 
-// Prints what is printed of a file, and answers whether all of it was taken.
-fn print_plan(file: &[u8]) -> bool {
+// Prints what is printed of a file.
+fn print_plan<W: Write>(out: &mut W, file: &[u8]) -> io::Result<()>
+    ensures { OnOk result (Appends (W.contents out.old) (W.contents out.new) (printed_of file.now)) }
+{
     let p = console::print(file);
     let span = Span {
         start: 0,
         len: p.count,
     };
-    write_all(STDOUT_FILENO, stretch::bytes(&p.text, span)) && libc::close(STDOUT_FILENO) == 0
+    write_all(out, stretch::bytes(&p.text, span))
 }
 
-fn main() {
-    // One byte more than a file may have: a longer one is refused whatever follows.
+// Why there is no answer.
+#[derive(Clone, Copy)]
+enum Failure {
+    Input(io::Error),
+    Answer(io::Error),
+}
+
+impl fmt::Display for Failure {
+    fn fmt<W: fmt::Write>(&self, f: &mut fmt::Formatter<W>) -> fmt::Result {
+        match self {
+            Failure::Input(e) => write!(f, "cannot read the input: {}", Reason(e)),
+            Failure::Answer(e) => write!(f, "cannot write the answer: {}", Reason(e)),
+        }
+    }
+}
+
+// Reads a file and prints what is printed of it. One byte more than a file may have is read, and no more: a longer one is refused whatever follows.
+fn run<R: Read, W: Write>(input: &mut R, out: &mut W) -> Result<(), Failure>
+    ensures { OnOk result (IfSome (R.remaining input.old)
+        (λ file. Appends (W.contents out.old) (W.contents out.new) (printed_of file))) }
+{
     let mut file = [0u8; FILE_LIMIT + 1];
-    let r = read_all(STDIN_FILENO, &mut file);
-    let n = r.count;
-    if !r.is_whole {
-        os::fail(b"plan: cannot read the input");
-    } else if !print_plan(&file[..n]) {
-        os::fail(b"plan: cannot write the answer");
+    let n = read_all(input, &mut file).map_err(Failure::Input)?;
+    print_plan(out, &file[..n]).map_err(Failure::Answer)
+}
+
+fn main(rt: HostRuntime) {
+    if let Err(e) = run(&mut rt.stdin(), &mut rt.stdout()) {
+        // Where this line cannot be written nothing is left to say so.
+        let _ = eprintln!(rt; "plan: {e}");
     }
 }

@@ -3,49 +3,47 @@
 // before.
 #![tactic(auto)]
 
-use libc::{STDIN_FILENO, STDOUT_FILENO};
 use refusal::FILE_LIMIT;
+use std::io;
 
-fn print_plan(file: &[u8], out: &mut [u8]) {
+fn print_plan(rt: &impl Print, file: &[u8], out: &mut [u8]) -> io::Result<()> {
     let p = planner::plan(file, out);
-    let o = p.outcome;
-    io::print_decimal(STDOUT_FILENO, planner::number(o));
-    io::write_all(STDOUT_FILENO, b"\t");
-    io::print_decimal(STDOUT_FILENO, planner::place(o));
-    io::write_all(STDOUT_FILENO, b"\t");
-    io::print_decimal(STDOUT_FILENO, p.written as u64);
-    io::write_all(STDOUT_FILENO, b"\n");
-    io::write_all(STDOUT_FILENO, out);
-    io::write_all(STDOUT_FILENO, b"\n");
+    let number = planner::number(p.outcome);
+    let place = planner::place(p.outcome);
+    let written = p.written;
+    println!(rt; "{number}\t{place}\t{written}")?;
+    rt.write_all(out)?;
+    println!(rt)
 }
 
-fn print_rooms(file: &[u8]) {
-    let mut none = [46u8; 0];
-    print_plan(file, &mut none);
-    let mut short = [46u8; 91];
-    print_plan(file, &mut short);
-    let mut enough = [46u8; 92];
-    print_plan(file, &mut enough);
-    let mut more = [46u8; 100];
-    print_plan(file, &mut more);
+fn print_rooms(rt: &impl Print, file: &[u8]) -> io::Result<()> {
+    let mut none = [b'.'; 0];
+    print_plan(rt, file, &mut none)?;
+    let mut short = [b'.'; 91];
+    print_plan(rt, file, &mut short)?;
+    let mut enough = [b'.'; 92];
+    print_plan(rt, file, &mut enough)?;
+    let mut more = [b'.'; 100];
+    print_plan(rt, file, &mut more)
 }
 
-fn print_readings() {
+fn print_readings(rt: &impl Print) -> io::Result<()> {
     let one: &[u8] = b"part\tp\t10\ntask\tt\t10\t10\t10\nend\n";
-    let mut short = [46u8; 34];
-    print_plan(one, &mut short);
-    let mut enough = [46u8; 35];
-    print_plan(one, &mut enough);
-    let mut none = [46u8; 0];
+    let mut short = [b'.'; 34];
+    print_plan(rt, one, &mut short)?;
+    let mut enough = [b'.'; 35];
+    print_plan(rt, one, &mut enough)?;
+    let mut none = [b'.'; 0];
     print_plan(
+        rt,
         b"part\tp\t10\ntask\tt\t10\t6\t10\ntask\tu\t10\t6\t10\nend\n",
         &mut none,
-    );
+    )
 }
 
-fn main() {
+fn main(rt: HostRuntime) -> io::Result<()> {
     let mut file = [0u8; FILE_LIMIT + 1];
-    let n = io::read_full(STDIN_FILENO, &mut file);
-    print_rooms(&file[..n]);
-    print_readings();
+    let n = streams::read_full(&mut rt.stdin(), &mut file);
+    print_rooms(&rt, &file[..n])?;
+    print_readings(&rt)
 }

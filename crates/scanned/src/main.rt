@@ -2,73 +2,66 @@
 // for question 2, where the byte 10 stands, how many of the first five tabs there are, and their five places. 'stdout' has what that should be.
 #![tactic(auto)]
 
-use libc::STDOUT_FILENO;
 use scan::Tabs;
+use std::fs::File;
+use std::io::Read;
+use std::rt::Files;
+use std::{env, io};
+use streams::Reason;
 
-fn print_field(n: usize) {
-    io::write_all(STDOUT_FILENO, b"\t");
-    io::print_decimal(STDOUT_FILENO, n as u64);
+fn print_field(rt: &impl Print, n: usize) -> io::Result<()> {
+    print!(rt; "\t{n}")
 }
 
-fn print_tabs(t: Tabs) {
-    print_field(t.count);
-    let mut i = 0;
-    while i < 5 {
-        print_field(t.place[i]);
-        i += 1;
+fn print_tabs(rt: &impl Print, t: Tabs) -> io::Result<()> {
+    print_field(rt, t.count)?;
+    for place in t.place.iter() {
+        print_field(rt, *place)?;
     }
+    Ok(())
 }
 
 // The answer at one place.
-fn print_line(file: &[u8], at: usize) {
+fn print_line(rt: &impl Print, file: &[u8], at: usize) -> io::Result<()> {
     let line = scan::line_at(file, at);
-    io::print_decimal(STDOUT_FILENO, at as u64);
+    print!(rt; "{at}")?;
     if line.good {
-        io::write_all(STDOUT_FILENO, b"\t1");
+        print!(rt; "\t1")?;
     } else {
-        io::write_all(STDOUT_FILENO, b"\t0");
+        print!(rt; "\t0")?;
     }
-    print_field(line.end);
-    let tabs = line.tabs;
-    print_tabs(tabs);
-    io::write_all(STDOUT_FILENO, b"\n");
+    print_field(rt, line.end)?;
+    print_tabs(rt, line.tabs)?;
+    println!(rt)
 }
 
 // Every place of the file, and the one behind its last byte.
-fn print_lines(file: &[u8]) {
-    let mut at = 0;
-    while at <= file.len() {
-        print_line(file, at);
-        at += 1;
+fn print_lines(rt: &impl Print, file: &[u8]) -> io::Result<()> {
+    for at in 0..=file.len() {
+        print_line(rt, file, at)?;
     }
+    Ok(())
 }
 
-fn print_file(fd: i32) {
+fn print_file(rt: &impl Print, input: &mut impl Read) -> io::Result<()> {
     let mut file = [0u8; 32769];
-    let n = io::read_full(fd, &mut file);
-    print_lines(&file[..n]);
+    let n = streams::read_full(input, &mut file);
+    print_lines(rt, &file[..n])
 }
 
-fn each(i: usize) {
-    let mut path = io::buffer();
-    let length = os::arg(i, &mut path);
-    let fd = os::open_read(&path[..length]);
-    if fd < 0 {
-        os::fail(&path[..length]);
-        return;
+fn each(rt: &(impl Files + Print + Eprint), path: &str) -> io::Result<()> {
+    match File::open(rt, path) {
+        Ok(mut file) => {
+            println!(rt; "== {path}")?;
+            print_file(rt, &mut file)
+        }
+        Err(e) => eprintln!(rt; "{path}: {}", Reason(&e)),
     }
-    io::write_all(STDOUT_FILENO, b"== ");
-    io::write_all(STDOUT_FILENO, &path[..length]);
-    io::write_all(STDOUT_FILENO, b"\n");
-    print_file(fd);
-    libc::close(fd);
 }
 
-fn main() {
-    let n = os::arg_count();
-    let mut i = 1;
-    while i < n {
-        each(i);
-        i += 1;
+fn main(rt: HostRuntime) -> io::Result<()> {
+    for path in env::args(&rt)?.skip(1) {
+        each(&rt, path.as_str())?;
     }
+    Ok(())
 }
