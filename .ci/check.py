@@ -251,13 +251,18 @@ def edits(top):
 
 
 def functions(text):
-    """Each function of a file of code, in order, as (the line of its `fn`, its name); that of a method is `Type::name`."""
-    kind, found = '', []
+    """Each function of a file of code, in order, as (its first line, which may be an attribute, its name); that of a method is `Type::name`."""
+    kind, start, found = '', 0, []
     for number, line in enumerate(text.splitlines(), 1):
         if line and not line[0].isspace():
             kind = (re.match(r'impl(?:<[^>]*>)? (?:\w+ for )?(\w+)', line) or ('', ''))[1]
         if fn := re.match(r'\s*(?:pub(?:\(\w+\))? )?(?:extern "C" |const |unsafe )*fn (\w+)', line):
-            found.append((number, f'{kind}::{fn[1]}' if kind and line[0].isspace() else fn[1]))
+            found.append((start or number, f'{kind}::{fn[1]}' if kind and line[0].isspace() else fn[1]))
+            start = 0
+        elif line.lstrip().startswith('#['):
+            start = start or number
+        elif re.match(r'\s*(?:pub(?:\(\w+\))? )?(?:struct|enum|impl|const|static|type|trait|mod|use|ghost)\b', line):
+            start = 0
     return found
 
 

@@ -452,6 +452,8 @@ SLIPS = [
     (check.check_edits, 'least/down: refused for a vacuous reason', LOG, '`omega`: the goal fails', f'`ceil_none` {FOLLOWS}'),
     (check.check_edits, 'least/down: the crate declares no ceil_covers', 'crates/least/proofs/Round.antt', 'ceil_covers :', 'ceil_is :'),
     (check.check_edits, 'least/step: Frac::next/returns and inner must break, and first breaks returns in proofs/ceil_div/', LOG, 'src/lib.rt:25:9', 'src/lib.rt:11:5'),
+    (check.check_edits, 'least/step: Frac::next/returns and inner must break, and first breaks returns in proofs/ceil_div/', LOG, 'src/lib.rt:25:9', 'src/lib.rt:6:1'),
+    (check.check_edits, 'least/step: Frac::next/returns and inner must break, and first breaks returns in proofs/ceil_div/', LOG, 'src/lib.rt:25:9', 'src/lib.rt:16:1'),
     (check.check_edits, 'least/step: Frac::next/returns and inner must break, and first breaks returns-then-a in proofs/Frac/next/', LOG, '(`returns`)', '(`returns-then-a`)'),
     (check.check_edits, 'least/step: refused before any proof: src/more.rt', LOG, 'src/lib.rt:25:9', 'src/more.rt:25:9'),
     (check.check_edits, 'least/step: refused before any proof: src/lib.rt', LOG, 'src/lib.rt:25:9', 'src/lib.rt:1:1'),
