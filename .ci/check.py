@@ -255,7 +255,7 @@ def functions(text):
     kind, start, found = '', 0, []
     for number, line in enumerate(text.splitlines(), 1):
         if line and not line[0].isspace():
-            kind = (re.match(r'impl(?:<[^>]*>)? (?:\w+ for )?(\w+)', line) or ('', ''))[1]
+            kind = (re.match(r'impl(?:<[^>]*>)? (?:[\w:]+(?:<[^>]*>)? for )?(\w+)', line) or ('', ''))[1]
         if fn := re.match(r'\s*(?:pub(?:\(\w+\))? )?(?:extern "C" |const |unsafe )*fn (\w+)', line):
             found.append((start or number, f'{kind}::{fn[1]}' if kind and line[0].isspace() else fn[1]))
             start = 0
