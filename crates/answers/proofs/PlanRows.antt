@@ -2,7 +2,7 @@
 --   every_kept vs   == the answer to question 10: every part has a kept row
 --   kept_choices vs == the choices built from kept pairs
 --   least_plan ps   == the parts with the rows of least load
---   text ps        == its listing
+--   text ps         == its listing
 -- Assumes nothing.
 use Prim.Native.Nat.{ℕ, zero, suc, ◌≤◌}
 use native.Mathlib.Omega.{arith}

@@ -1,15 +1,15 @@
 -- The answers of the six operations, for every list of bytes and all numbers (weighing: `weigh_of` of the crate load).
---   plan_of s room      == the listing of the file s, or the refusal of the first no among 1 to 11, then 14
---   chart_of s room     == the chart of the file s, or the refusal of the first no among 1 to 11, then 19, then 14
---   candidates_of s k   == the kept pairs of part k, or the first no among 1 to 9, 12 and 10 for that part alone
---   name_of s k         == the name of part k, or the first no among 1 to 9 and 12
---   supply_answer P Q t == the supply of (P,Q) in t ticks, or 12
---   in_room room bytes  == these bytes, or 14 if they do not fit so many lent ones
---   listed_in room plan, charted_in room plan == the listing and the chart of a plan, or 14
---   candidate_questions, name_questions, supply_questions == what each of them asks, in this order, behind questions 1 to 9
---   planned a, candidate_list a, name_bytes a, supplied a == such an answer as the operation hands it over: a refusal has zeros everywhere else
---   buffer_after a out  == the lent bytes after a plan or a chart: its bytes and, after them, what was there; all as it was on refusal
---   HandedOver a before r after == r is the result and `after` the lent bytes once the answer a is handed over; `before` are the lent bytes before that
+--   plan_of s room                                                == the listing of the file s, or the refusal of the first no among 1 to 11, then 14
+--   chart_of s room                                               == the chart of the file s, or the refusal of the first no among 1 to 11, then 19, then 14
+--   candidates_of s k                                             == the kept pairs of part k, or the first no among 1 to 9, 12 and 10 for that part alone
+--   name_of s k                                                   == the name of part k, or the first no among 1 to 9 and 12
+--   supply_answer P Q t                                           == the supply of (P,Q) in t ticks, or 12
+--   in_room room bytes                                            == these bytes, or 14 if they do not fit so many lent ones
+--   listed_in room plan, charted_in room plan                     == the listing and the chart of a plan, or 14
+--   candidate_questions, name_questions, supply_questions         == what each of them asks, in this order, behind questions 1 to 9
+--   planned a, candidate_list a, name_bytes a, supplied a         == such an answer as the operation hands it over: a refusal has zeros everywhere else
+--   buffer_after a out                                            == the lent bytes after a plan or a chart: its bytes and, after them, what was there; all as it was on refusal
+--   HandedOver a before r after                                   == r is the result and `after` the lent bytes once the answer a is handed over; `before` are the lent bytes before that
 --   PlanAnswered s before r after, ChartAnswered s before r after == what `plan` and `chart` promise, for every file s and all lent bytes
 -- Assumes nothing.
 use Rattle.std.specs.Prelude.{ℕ, ◌≡◌, Bool, not, ◌&&◌, List, [], ◌∷◌, ◌++◌, leb, length, drop}

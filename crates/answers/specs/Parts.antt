@@ -1,7 +1,7 @@
 -- A part of a readable file, as the candidates, the selection and the listing see it.
---   row_of v c      == the pair c as a row, with the period of the partition v
---   kept_rows v     == the kept pairs of a partition as rows, each with its P
---   share_of p r b  == what is printed of the part p with the row r and the row's bound b: each lock at the ceiling shown for r's X
+--   row_of v c         == the pair c as a row, with the period of the partition v
+--   kept_rows v        == the kept pairs of a partition as rows, each with its P
+--   share_of p r b     == what is printed of the part p with the row r and the row's bound b: each lock at the ceiling shown for r's X
 --   shares_of ps rs bs == the same for each part, in file order
 -- Assumes nothing.
 use Rattle.std.specs.Prelude.{List, map}

@@ -1,16 +1,16 @@
 -- What a plan is, once: the parts of a file with a row for each.
---   Plan          == the parts of the file, and their rows in file order
---   partitions ps == the numbers of the parts
---   offered vs    == the rows that each part offers: those of its kept pairs
---   least_rows vs  == the first choice of least load among those built from kept pairs
---   chosen_rows vs == these rows, or the refusal of the first no among 10 and 11
---   plan_with ps a == the plan of these parts with these rows, or the refusal
---   chosen_plan ps == the plan of these parts, or that refusal
---   plan_file s    == the plan of the file s, or the refusal of the first no among questions 1 to 11
---   plan_text plan == its listing
+--   Plan                 == the parts of the file, and their rows in file order
+--   partitions ps        == the numbers of the parts
+--   offered vs           == the rows that each part offers: those of its kept pairs
+--   least_rows vs        == the first choice of least load among those built from kept pairs
+--   chosen_rows vs       == these rows, or the refusal of the first no among 10 and 11
+--   plan_with ps a       == the plan of these parts with these rows, or the refusal
+--   chosen_plan ps       == the plan of these parts, or that refusal
+--   plan_file s          == the plan of the file s, or the refusal of the first no among questions 1 to 11
+--   plan_text plan       == its listing
 --   cycle_questions rows == question 19 of the rows of a plan, at the first whose period does not divide 720
---   in_cycle_plan plan == the plan, or that refusal
---   cycle_plan s   == the plan of the file s, if all its periods divide 720, or the refusal of the first no among questions 1 to 11, then 19
+--   in_cycle_plan plan   == the plan, or that refusal
+--   cycle_plan s         == the plan of the file s, if all its periods divide 720, or the refusal of the first no among questions 1 to 11, then 19
 -- Assumes nothing.
 use Rattle.std.specs.Prelude.{ℕ, not, List, [], ◌∷◌, map}
 use Rattle.least.specs.Lists.{every, first_of}

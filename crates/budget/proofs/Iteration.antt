@@ -1,6 +1,6 @@
 -- The local test of one task by iteration: its need is met at t just if the inverse of the supply takes the need at t to at most t.
 --   ticks P Q b task higher t == the ticks in which the need at t is supplied
---   line_of P Q == a linear supply that is never below the supply of (P,Q)
+--   line_of P Q               == a linear supply that is never below the supply of (P,Q)
 -- Assumes nothing.
 use Prim.Native.Nat.{ℕ, ◌+◌, ◌-◌, ◌*◌, ◌≤◌, ◌<◌}
 use native.Mathlib.Nat.{le_refl, add-le-add, mul-le-mul_left}

@@ -1,8 +1,8 @@
 -- The local test (document 001, equation 3) of a partition v under the setting σ.
---   is_met P Q blocking task higher t == C_i + Σ_{k>i} ⌈t/T_k⌉×C_k + blocking ≤ supply(t)
+--   is_met P Q blocking task higher t    == C_i + Σ_{k>i} ⌈t/T_k⌉×C_k + blocking ≤ supply(t)
 --   task_passes P Q blocking task higher == some t, 1 ≤ t ≤ D_i, has that
---   passes v σ Q      == a budget Q passes: every task i does
---   least_budget v σ   == the least Q, 1 ≤ Q ≤ P, that passes, if there is one
+--   passes v σ Q                         == a budget Q passes: every task i does
+--   least_budget v σ                     == the least Q, 1 ≤ Q ≤ P, that passes, if there is one
 -- Assumes nothing.
 use Rattle.std.specs.Prelude.{ℕ, Bool, List, leb}
 use Rattle.least.specs.declared.Least.{Least}

@@ -1,6 +1,6 @@
 -- The least budget from q on, task by task: a step stays in range, and what holds along all steps.
 --   Blocked blocking tested n i blocked == the places from i on hold the blockings, those before it are as in `tested`
---   Lowered .. n q i budget blocked == the steps from the place i on are done: they took the budget from q to `budget`
+--   Lowered .. n q i budget blocked     == the steps from the place i on are done: they took the budget from q to `budget`
 -- Assumes nothing.
 use Prim.Native.Nat.{ℕ, zero, suc, ◌-◌, ◌≤◌, ◌<◌}
 use native.Mathlib.Omega.{arith}

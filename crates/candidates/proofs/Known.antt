@@ -1,5 +1,5 @@
 -- The ceiling shown for a lock at x, from the one shown at a greater x: the search goes on from there.
---   shown_at v x l   == the ceiling shown for lock l at x, with the time that counts there
+--   shown_at v x l  == the ceiling shown for lock l at x, with the time that counts there
 --   Known v y l c w == c is shown for lock l at y with the time w; or the lock is shared, nothing is known of it yet, and c is its lowest ceiling
 -- Assumes nothing.
 use Prim.Native.Nat.{ℕ, suc, ◌+◌, ◌-◌, ◌≤◌, ◌<◌}

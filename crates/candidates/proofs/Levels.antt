@@ -1,5 +1,5 @@
 -- As x falls, the ceilings shown for x rise, and so do blockings; but each task's blocking rises once at most, and then to the greatest that it can be.
---   blocking_at v σ i  == the blocking of the task at the place i, from 0, under the setting σ
+--   blocking_at v σ i == the blocking of the task at the place i, from 0, under the setting σ
 --   level v x         == how many tasks are blocked, under the ceilings shown for x, as long as under the highest ceilings
 -- Assumes nothing.
 use Prim.Native.Nat.{ℕ, ◌≤◌, ◌<◌}

@@ -1,5 +1,5 @@
 -- The least budget under the ceilings of the arrays, task by task: no smaller one passes, and with it every task does.
---   test_at p c k b Q == the task at the place k of the part p, by its columns c, passes with the budget Q where its blocking is b
+--   test_at p c k b Q    == the task at the place k of the part p, by its columns c, passes with the budget Q where its blocking is b
 --   Tested p c blocked q == with q every task passes with its blocking of the array, where this is known
 -- Assumes nothing.
 use Prim.Native.Nat.{ℕ, suc, ◌≤◌, ◌<◌}

@@ -1,5 +1,5 @@
 -- The ceilings shown for x: the lowest that are held for at most x. They are permitted wherever any setting has X ≤ x, and then no such setting passes with a smaller budget.
---   Within v x l r     == r is a ceiling of lock l that is in range, and the time that counts there is permitted and at most x
+--   Within v x l r      == r is a ceiling of lock l that is in range, and the time that counts there is permitted and at most x
 --   lowest_within v x l == the search for the lowest such r
 -- Assumes nothing.
 use Prim.Native.Nat.{ℕ, suc, ◌-◌, ◌≤◌}

@@ -3,7 +3,7 @@
 --   Behind c d        == d has a smaller X and a greater Q+X than c
 --   lighter s cs      == the pairs with Q+X < s
 --   WalkedFrom v e cs == cs is what the walk keeps of the candidates with X ≥ e
---   Walked v x cs == of those with X > x
+--   Walked v x cs     == of those with X > x
 -- Assumes nothing.
 use Prim.Native.Nat.{ℕ, suc, ◌+◌, ◌-◌, ◌≤◌, ◌<◌}
 use native.Mathlib.Nat.{le_refl}

@@ -1,12 +1,12 @@
 -- Candidates and the kept list of a partition v: every setting is tried.
---   settings v            == all settings: each lock's ceiling is from its lowest to its highest, which a private lock has for its lowest
---   candidate_of v σ       == a permitted setting's X with its least passing Q; nothing where there is none
---   candidates_in v        == the candidates of all settings
---   is_kept cs c           == no other (Q,X) of the list cs has X no greater and Q+X no greater
---   kept_list v            == the kept candidates, in falling X
---   kept_from v e          == the same of the candidates with X at least e
---   kept_answer cs         == a list as the answer has it: up to kept_limit pairs, zeros in the places behind them, and their count
---   shown_ceiling v x l    == the ceiling shown for lock l: the lowest whose w is at most x and permitted; a private lock is listed with its lowest ceiling
+--   settings v          == all settings: each lock's ceiling is from its lowest to its highest, which a private lock has for its lowest
+--   candidate_of v σ    == a permitted setting's X with its least passing Q; nothing where there is none
+--   candidates_in v     == the candidates of all settings
+--   is_kept cs c        == no other (Q,X) of the list cs has X no greater and Q+X no greater
+--   kept_list v         == the kept candidates, in falling X
+--   kept_from v e       == the same of the candidates with X at least e
+--   kept_answer cs      == a list as the answer has it: up to kept_limit pairs, zeros in the places behind them, and their count
+--   shown_ceiling v x l == the ceiling shown for lock l: the lowest whose w is at most x and permitted; a private lock is listed with its lowest ceiling
 -- Assumes nothing.
 use Rattle.std.specs.Prelude.{ℕ, zero, suc, ◌+◌, ◌-◌, Bool, cond, not, ◌&&◌, ◌||◌, List, [], ◌∷◌, map, leb, ltb, eqb, length}
 use Rattle.least.specs.declared.Least.{Least}

@@ -1,7 +1,7 @@
 -- The paper's sentences on candidates over every setting and every budget, whether or not a list of them was made.
---   Permitted v σ  == σ is a permitted setting
---   Candidate v c  == c is a permitted setting's X with its least passing Q
---   IsKept v c     == c is a candidate, and no other candidate has X no greater and Q+X no greater
+--   Permitted v σ == σ is a permitted setting
+--   Candidate v c == c is a permitted setting's X with its least passing Q
+--   IsKept v c    == c is a candidate, and no other candidate has X no greater and Q+X no greater
 -- Assumes nothing.
 use Rattle.std.specs.Prelude.{◌+◌, ◌≤◌, ◌≡◌, true}
 use Rattle.least.specs.declared.Least.TheVariants.{At}

@@ -2,7 +2,7 @@
 --   program_room   == the bytes that the program lends to a plan
 --   printed_text a == a listing as it is; of a refusal `refused`, its number and its place
 --   printed_of s   == what is printed of the file s
---   printed text  == a text as the program is handed it: in an array, zeros behind it, and how many bytes it has
+--   printed text   == a text as the program is handed it: in an array, zeros behind it, and how many bytes it has
 -- Assumes nothing.
 use Rattle.std.specs.Prelude.{ℕ, List, length}
 use Rattle.least.specs.Lists.{pad}

@@ -1,11 +1,11 @@
 -- Request M-109: a chart of one cycle, sentence by sentence. A period of P begins at each tick that P divides.
---   HighestDue n due k   == k is the highest of the parts 1 to n that is still due a tick, 0 where none is; part j is due `due j` ticks
---   LaidOut rows due holder == the request's sentences on a layout: part k is still due `due y k` ticks at tick y, and `holder y` has this tick
---   due_of rows y k       == how many ticks part k is still due at tick y
---   without_holding r     == the row r without its X
---   ticks_in bytes k      == the ticks of part k, where the bytes of one cycle are read over and over
+--   HighestDue n due k       == k is the highest of the parts 1 to n that is still due a tick, 0 where none is; part j is due `due j` ticks
+--   LaidOut rows due holder  == the request's sentences on a layout: part k is still due `due y k` ticks at tick y, and `holder y` has this tick
+--   due_of rows y k          == how many ticks part k is still due at tick y
+--   without_holding r        == the row r without its X
+--   ticks_in bytes k         == the ticks of part k, where the bytes of one cycle are read over and over
 --   Charted s before r after == what stands in the lent bytes once the file s is charted
---   CycleChart           == the request
+--   CycleChart               == the request
 -- Assumes nothing.
 use Rattle.std.specs.Prelude.{ℕ, suc, ◌+◌, ◌*◌, ◌/◌, ◌%◌, ◌≤◌, ◌<◌, ◌≡◌, true, ◌↔◌, List, map, eqb, length, drop, get_or}
 use Rattle.least.specs.Lists.{sum, nth_or}

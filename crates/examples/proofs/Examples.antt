@@ -7,7 +7,7 @@ use mathlib.Core.List.{List, ◌++◌}
 use lib.ListN.{take, drop}
 use Rattle.examples.specs.Table.{Example, table, AllHold, ◌and◌, nothing_more}
 use Rattle.examples.proofs.Opened.{opened}
-use Rattle.examples.proofs.F.{keeps-F, keeps-F-one_named, keeps-F-alone}
+use Rattle.examples.proofs.F.{keeps-F, keeps_f_one_named, keeps-F-alone}
 
 smaller-B : (3 + 3 < 2 + 5) × (3 < 5)
 smaller-B = (omega arith, omega arith)
@@ -32,7 +32,7 @@ paper_01_holds =
 requests_hold : AllHold (drop 23 table)
 unfolding opened
 requests_hold =
-    refl and refl and keeps-F-one_named and keeps-F-alone  -- M-100
+    refl and refl and keeps_f_one_named and keeps-F-alone  -- M-100
     and refl and refl and refl and refl and refl and refl and refl and refl  -- M-109
     and nothing_more
 

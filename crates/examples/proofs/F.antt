@@ -23,7 +23,7 @@ use Rattle.candidates.specs.Candidates.{pair, with_ceiling, settings, candidate_
 use Rattle.plan_file.specs.Numbers.{parts_of, part_at}
 use Rattle.answers.specs.Answers.{candidates_of}
 use Rattle.text.specs.Bytes.{bytes}
-use Rattle.examples.specs.Files.{file_f, file_fOne_named, file_fAlone}
+use Rattle.examples.specs.Files.{file_f, file_f_one_named, file_f_alone}
 use Rattle.examples.specs.Table.{parts_in}
 use Rattle.examples.proofs.Opened.{opened}
 
@@ -139,13 +139,13 @@ kept_of_r2 : kept_among (map (λ t. t.found) of_r2) ≡ pair 106 8 ∷ []
 unfolding opened
 kept_of_r2 = refl
 
-read-F-one_named : parts_of file_fOne_named ≡ answered (record { name = bytes "s"; locks = bytes "r2" ∷ bytes "r1" ∷ []; numbers = F true false } ∷ part_at (parts_in file_fOne_named) 2 ∷ [])
+read_f_one_named : parts_of file_f_one_named ≡ answered (record { name = bytes "s"; locks = bytes "r2" ∷ bytes "r1" ∷ []; numbers = F true false } ∷ part_at (parts_in file_f_one_named) 2 ∷ [])
 unfolding opened
-read-F-one_named = refl
+read_f_one_named = refl
 
-pub keeps-F-one_named : candidates_of file_fOne_named 1 ≡ answered (pair 106 8 ∷ [])
+pub keeps_f_one_named : candidates_of file_f_one_named 1 ≡ answered (pair 106 8 ∷ [])
 unfolding candidates_of when_answered when_done first_no is_empty nth_or
-keeps-F-one_named = rw (read-F-one_named, kept_of_tried (F true false) of_r2 all_of_r2 right_of_r2, kept_of_r2) refl
+keeps_f_one_named = rw (read_f_one_named, kept_of_tried (F true false) of_r2 all_of_r2 right_of_r2, kept_of_r2) refl
 
 -- both are private: there is one setting
 abbrev the_one : List Tried
@@ -163,10 +163,10 @@ kept_the_one : kept_among (map (λ t. t.found) the_one) ≡ pair 102 0 ∷ []
 unfolding opened
 kept_the_one = refl
 
-read-F-alone : parts_of file_fAlone ≡ answered (record { name = bytes "s"; locks = bytes "r2" ∷ bytes "r1" ∷ []; numbers = F false false } ∷ [])
+read-F-alone : parts_of file_f_alone ≡ answered (record { name = bytes "s"; locks = bytes "r2" ∷ bytes "r1" ∷ []; numbers = F false false } ∷ [])
 unfolding opened
 read-F-alone = refl
 
-pub keeps-F-alone : candidates_of file_fAlone 1 ≡ answered (pair 102 0 ∷ [])
+pub keeps-F-alone : candidates_of file_f_alone 1 ≡ answered (pair 102 0 ∷ [])
 unfolding candidates_of when_answered when_done first_no is_empty nth_or
 keeps-F-alone = rw (read-F-alone, kept_of_tried (F false false) the_one all_the_one right_the_one, kept_the_one) refl

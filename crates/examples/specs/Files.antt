@@ -1,18 +1,18 @@
 -- The files and listings of examples A to L, and of those of requests, byte for byte.
---   file_a, listing_a == example A as it is typed, and as the program prints it
---   card_at P        == A with another period of the part card
---   file_fWith parts == table 1 of document 001, all times doubled, D = T, P = 250, locks r1 and r2, with these lines of other parts behind it
---   file_f           == the same with a second part that names r1 and r2
---   file_fOne_named   == with a second part that names r2 only
---   file_fAlone      == without a second part
+--   file_a, listing_a             == example A as it is typed, and as the program prints it
+--   card_at P                     == A with another period of the part card
+--   file_f_with parts             == table 1 of document 001, all times doubled, D = T, P = 250, locks r1 and r2, with these lines of other parts behind it
+--   file_f                        == the same with a second part that names r1 and r2
+--   file_f_one_named              == with a second part that names r2 only
+--   file_f_alone                  == without a second part
 --   file_private, listing_private == a file with one part, whose lock is private, and its listing
---   file_blocked     == the same, where the higher task uses the lock too, and so is blocked
---   file_top, listing_top     == a file whose second part has a ceiling below the top, and its listing
---   file_second, listing_second == a file whose first choice does not pass while another does, and its listing
---   one_part P tasks == a file with one part of period P and the given task lines
---   two_parts P R    == a file with two parts, of periods P and R, each with one task
---   every_ticks n    == a file with one task whose T is written n
---   refusal_line     == what the program prints of a refusal with this number and place
+--   file_blocked                  == the same, where the higher task uses the lock too, and so is blocked
+--   file_top, listing_top         == a file whose second part has a ceiling below the top, and its listing
+--   file_second, listing_second   == a file whose first choice does not pass while another does, and its listing
+--   one_part P tasks              == a file with one part of period P and the given task lines
+--   two_parts P R                 == a file with two parts, of periods P and R, each with one task
+--   every_ticks n                 == a file with one task whose T is written n
+--   refusal_line                  == what the program prints of a refusal with this number and place
 -- Assumes nothing.
 use Rattle.std.specs.Prelude.{ℕ, List, ◌++◌}
 use Prim.Native.String.{String}
@@ -34,19 +34,19 @@ listing_c = bytes "load\tcard\t10\t10\nshare\tcard\t10\t2\t2\t10\t10\nceiling\tb
 unfoldable pub listing_d : List ℕ
 listing_d = bytes "load\tcard\t9\t9\nshare\tcard\t9\t1\t2\t9\t9\nceiling\tbuf\t1\nshare\tprint\t10\t3\t3\t8\t10\nceiling\tbuf\t2\n"
 
-unfoldable pub file_fWith : String → List ℕ
-file_fWith parts =
+unfoldable pub file_f_with : String → List ℕ
+file_f_with parts =
     bytes "part\ts\t250\ntask\tt1\t1500\t16\t1500\nlock\tr2\t8\ntask\tt2\t1300\t100\t1300\nlock\tr1\t10\ntask\tt3\t1200\t20\t1200\ntask\tt4\t1000\t70\t1000\nlock\tr1\t20\ntask\tt5\t320\t2\t320\ntask\tt6\t300\t4\t300\n"
     ++ (bytes parts ++ bytes "end\n")
 
 unfoldable pub file_f : List ℕ
-file_f = file_fWith "part\to\t250\ntask\tu\t1000\t1\t1000\nlock\tr1\t1\nlock\tr2\t1\n"
+file_f = file_f_with "part\to\t250\ntask\tu\t1000\t1\t1000\nlock\tr1\t1\nlock\tr2\t1\n"
 
-unfoldable pub file_fOne_named : List ℕ
-file_fOne_named = file_fWith "part\to\t250\ntask\tu\t1000\t1\t1000\nlock\tr2\t1\n"
+unfoldable pub file_f_one_named : List ℕ
+file_f_one_named = file_f_with "part\to\t250\ntask\tu\t1000\t1\t1000\nlock\tr2\t1\n"
 
-unfoldable pub file_fAlone : List ℕ
-file_fAlone = file_fWith ""
+unfoldable pub file_f_alone : List ℕ
+file_f_alone = file_f_with ""
 
 unfoldable pub one_part : String → String → List ℕ
 one_part P tasks = bytes "part\tp\t" ++ (bytes P ++ (bytes "\n" ++ (bytes tasks ++ bytes "end\n")))

@@ -1,8 +1,8 @@
 -- Examples A to L of paper 01, and those of requests of paper 02, as one table.
---   Claim    == what an example says of the program, of an operation or of a definition
---   Holds c  == that it is so
---   table    == the claims, with the letters of paper 01 and the numbers of requests
---   AllHold  == every claim of a table holds
+--   Claim   == what an example says of the program, of an operation or of a definition
+--   Holds c == that it is so
+--   table   == the claims, with the letters of paper 01 and the numbers of requests
+--   AllHold == every claim of a table holds
 -- Assumes nothing.
 use Rattle.std.specs.Prelude.{ℕ, ◌+◌, ◌<◌, ◌≡◌, Bool, true, false, ◌&&◌, List, [], ◌∷◌, eqb, length, take}
 use Prim.Native.String.{String}
@@ -23,7 +23,7 @@ use Rattle.candidates.specs.Candidates.{pair, same_pair, candidate_of}
 use Rattle.plan_file.specs.Numbers.{PlanPart, parts_of, part_at}
 use Rattle.answers.specs.Answers.{chart_of, candidates_of, supply_answer}
 use Rattle.console.specs.Printed.{printed_of}
-use Rattle.examples.specs.Files.{refusal_line, file_a, listing_a, card_at, listing_c, listing_d, file_f, file_fOne_named, file_fAlone, file_private, file_blocked, listing_private, one_part, two_parts, listing_i, every_ticks, listing_l}
+use Rattle.examples.specs.Files.{refusal_line, file_a, listing_a, card_at, listing_c, listing_d, file_f, file_f_one_named, file_f_alone, file_private, file_blocked, listing_private, one_part, two_parts, listing_i, every_ticks, listing_l}
 
 pub data Claim : Type 0 where
   -- the program prints this of the file
@@ -113,8 +113,8 @@ table =
     ∷ at "L" (refuses (every_ticks "010") 7 2)
     ∷ at "M100" (prints file_private listing_private)
     ∷ at "M100" (keeps file_blocked 1 (pair 3 0 ∷ []))
-    ∷ at "M100" (keeps file_fOne_named 1 (pair 106 8 ∷ []))
-    ∷ at "M100" (keeps file_fAlone 1 (pair 102 0 ∷ []))
+    ∷ at "M100" (keeps file_f_one_named 1 (pair 106 8 ∷ []))
+    ∷ at "M100" (keeps file_f_alone 1 (pair 102 0 ∷ []))
     ∷ at "M109" (charts file_a (2 ∷ 2 ∷ 2 ∷ 1 ∷ 1 ∷ 1 ∷ 0 ∷ 0 ∷ 0 ∷ 0 ∷ 2 ∷ 2 ∷ 2 ∷ 0 ∷ 0 ∷ 0 ∷ 0 ∷ 0 ∷ 0 ∷ 0 ∷ []))
     ∷ at "M109" (charts (one_part "10" "task\tt\t10\t10\t10\n") (1 ∷ 1 ∷ 1 ∷ 1 ∷ 1 ∷ 1 ∷ 1 ∷ 1 ∷ 1 ∷ 1 ∷ []))
     ∷ at "M109" (refuses_chart (one_part "7" "task\tt\t70\t1\t70\n") 0 19 1)

@@ -1,14 +1,14 @@
 -- The wrong planners of paper 01, (c), each by what it does with readable files, whatever else it does; and that demand 3 shuts them out. The sixth of
 -- (c), a kept count not equal to the list, is no planner: `KeptIs` of the crate planner says what the count is.
---   Run            == what an operation that plans hands back: its result, and the lent bytes after it
---   Planner        == such an operation: a run for every file and all lent bytes
---   Does planner   == all that the planner can promise: its own result and bytes
---   AnswersEleven  == it answers 11 to every readable file
---   PrintsA        == it prints A's listing for all readable files
---   LeavesBlank    == it returns with the buffer blank, where it was blank before
---   TopAfterFirst  == it puts top ceilings in all parts but the first
---   StopsAtFirst   == it says "none passes" where every part has a kept pair, and the choice of the first ones does not pass
---   ShutOut Kind   == no planner of this kind meets demand 3
+--   Run           == what an operation that plans hands back: its result, and the lent bytes after it
+--   Planner       == such an operation: a run for every file and all lent bytes
+--   Does planner  == all that the planner can promise: its own result and bytes
+--   AnswersEleven == it answers 11 to every readable file
+--   PrintsA       == it prints A's listing for all readable files
+--   LeavesBlank   == it returns with the buffer blank, where it was blank before
+--   TopAfterFirst == it puts top ceilings in all parts but the first
+--   StopsAtFirst  == it says "none passes" where every part has a kept pair, and the choice of the first ones does not pass
+--   ShutOut Kind  == no planner of this kind meets demand 3
 -- Assumes nothing.
 use Rattle.std.specs.Prelude.{ℕ, ◌≤◌, ◌≡◌, ◌⊎◌, true, false, not, List, map, length, take, drop, replicate}
 use Rattle.least.specs.Lists.{is_empty, every, nth_or}

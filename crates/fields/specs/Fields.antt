@@ -1,6 +1,6 @@
 -- What the bytes of a field may be.
---   is_name bs    == a name is 1 to 8 bytes from a–z and 0–9
---   is_number bs  == a number is 1 to 1,000,000 without leading zero
+--   is_name bs   == a name is 1 to 8 bytes from a–z and 0–9
+--   is_number bs == a number is 1 to 1,000,000 without leading zero
 -- Assumes nothing.
 use Rattle.std.specs.Prelude.{ℕ, Bool, false, not, ◌&&◌, ◌||◌, List, [], ◌∷◌, leb, eqb, length}
 use Rattle.least.specs.Lists.{every}

@@ -1,8 +1,8 @@
 -- Request M-108: the supply clause from first principles.
---   LeastGiven P Q t x == x is the least number of given ticks in any window of t ticks, under any assignment that gives exactly Q ticks in each period of P
---   early_then_late P Q  == a budget delivered early in the first period, and late in every one after it
+--   LeastGiven P Q t x    == x is the least number of given ticks in any window of t ticks, under any assignment that gives exactly Q ticks in each period of P
+--   early_then_late P Q   == a budget delivered early in the first period, and late in every one after it
 --   PassesDelivered v σ Q == a budget passes the local test however it is delivered, whatever tick the window of each task starts at
---   FirstPrinciples    == the supply is this least number, the operation `supply` answers it, and a budget passes the local test exactly if it passes however it is delivered
+--   FirstPrinciples       == the supply is this least number, the operation `supply` answers it, and a budget passes the local test exactly if it passes however it is delivered
 -- Assumes nothing.
 use Rattle.std.specs.Prelude.{ℕ, ◌-◌, ◌*◌, ◌%◌, ◌≤◌, ◌≡◌, ◌↔◌, true, cond, leb, ltb}
 use Rattle.refusal.specs.declared.Outcome.TheVariants.{Done}

@@ -68,14 +68,12 @@ fn places(n: usize) -> usize
     ROW_LIMIT
 }
 
-// The struct with this row at the place i.
-fn with_row(all: Rows, i: usize, row: Row) -> Rows
+// Puts this row into the struct, at the place i.
+fn with_row(all: &mut Rows, i: usize, row: Row)
     requires { i < row_limit }
-    ensures { result ≡ with_row all i row }
+    ensures { all.new ≡ with_row all.old i row }
 {
-    let mut next = all;
-    next.rows[i] = row;
-    next
+    all.rows[i] = row;
 }
 
 // Weighs a lent list of rows, of any length. Only the first sixteen are copied: more are refused by their count.
@@ -87,7 +85,7 @@ pub fn weigh_slice(rows: &[Row]) -> Weighed
     let mut all = no_rows(n);
     let mut i = 0;
     while i < end {
-        all = with_row(all, i, rows[i]);
+        with_row(&mut all, i, rows[i]);
         i += 1;
     }
     load::weigh(all)

@@ -1,9 +1,9 @@
 -- Where the name of a part stands in its file.
 --   no_name r        == a refusal: no bytes, at 0
---   stretched a p   == the answer a as it is handed over: with the stretch p, or with none on refusal
+--   stretched a p    == the answer a as it is handed over: with the stretch p, or with none on refusal
 --   name_stretch s k == the name of part k in the file s, as the stretch of its `part` line
---   StretchIs s k r == r is that, and the bytes of the stretch are the name's
---   NameIs s k r    == r is the name of part k as that stretch of the lent file s
+--   StretchIs s k r  == r is that, and the bytes of the stretch are the name's
+--   NameIs s k r     == r is the name of part k as that stretch of the lent file s
 -- Assumes nothing.
 use Rattle.std.specs.Prelude.{ℕ, ◌≡◌, List}
 use Rattle.std.specs.Borrow.{Bor}

@@ -1,9 +1,9 @@
 -- For each n from 1 on, a part with n tasks and one shared lock, which only the lowest task uses. Each ceiling of the lock gives a kept pair of its own.
---   light n j    == a task of one tick that uses no lock, with j tasks above it
---   heavy n      == the lowest task: it holds the lock for all of its 4n ticks, and has n − 1 tasks above it
---   lights n j   == j light tasks, lowest priority first
+--   light n j     == a task of one tick that uses no lock, with j tasks above it
+--   heavy n       == the lowest task: it holds the lock for all of its 4n ticks, and has n − 1 tasks above it
+--   lights n j    == j light tasks, lowest priority first
 --   stair_tasks n == the n tasks
---   stairs n     == the part, with the period 8n
+--   stairs n      == the part, with the period 8n
 -- A task's deadline is what it asks for, with the 4n ticks of blocking of a light one, and four ticks more for each task above it.
 -- Assumes nothing.
 use Prim.Native.Nat.{ℕ, zero, suc, ◌+◌, ◌-◌, ◌*◌, ◌≤◌, ◌<◌}

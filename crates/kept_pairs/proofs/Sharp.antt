@@ -1,6 +1,6 @@
 -- A part with n tasks has at most n kept pairs (crate candidates, law `kept_n`), and no smaller bound holds: for each n from 1 on some part with n tasks has n.
---   step n m    == the pair of the ceiling n − m: the budget 8n − 2m with X = 4n + m
---   steps n k   == these pairs from m = k − 1 down to m = 0
+--   step n m  == the pair of the ceiling n − m: the budget 8n − 2m with X = 4n + m
+--   steps n k == these pairs from m = k − 1 down to m = 0
 -- Assumes nothing.
 use Prim.Native.Nat.{ℕ, zero, suc, ◌+◌, ◌-◌, ◌*◌, ◌≤◌, ◌<◌}
 use native.Mathlib.Nat.{le_refl, eq-or-lt_of_le}

@@ -1,15 +1,15 @@
 -- The layout of ticks (request M-109): which part has which tick, for a list of rows, lowest priority first. In the field it is the schedule of periodic
 -- servers under fixed priorities, each with its budget only, and the chart is its table over one major cycle.
---   begins P y       == a period of P begins at tick y
---   holder_of due     == the number of the highest part that is still due a tick, 0 where none is
---   served_one k due  == the due ticks once part k has got one
---   after_tick due    == the due ticks once a tick has gone to the highest part still due
+--   begins P y         == a period of P begins at tick y
+--   holder_of due      == the number of the highest part that is still due a tick, 0 where none is
+--   served_one k due   == the due ticks once part k has got one
+--   after_tick due     == the due ticks once a tick has gone to the highest part still due
 --   renewed rows y due == the due ticks with Q in the place of each part whose period begins at tick y
---   due_at rows y     == how many ticks each part is still due at tick y: Q from the start of each of its periods, one less for each tick it got
---   holder_at rows y  == the part that has tick y, 0 where none has it
---   part_ticks rows k == the ticks of part k
---   chart rows       == the parts that have ticks 0 to 719
---   in_cycle r        == the row's period divides 720
+--   due_at rows y      == how many ticks each part is still due at tick y: Q from the start of each of its periods, one less for each tick it got
+--   holder_at rows y   == the part that has tick y, 0 where none has it
+--   part_ticks rows k  == the ticks of part k
+--   chart rows         == the parts that have ticks 0 to 719
+--   in_cycle r         == the row's period divides 720
 -- All parts start together, at tick 0. A period begins with Q due, whatever was left of the one before.
 -- Assumes nothing.
 use Rattle.std.specs.Prelude.{ℕ, zero, suc, ◌-◌, ◌%◌, Bool, cond, leb, eqb}

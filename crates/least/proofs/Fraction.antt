@@ -1,5 +1,5 @@
 -- Laws of fractions. 1/0 is the greatest; the order is transitive where the middle one is not 0/0.
---   Ok a == a is not 0/0;  Finite a == the denominator is positive
+--   Ok a          == a is not 0/0;  Finite a == the denominator is positive
 --   Reached n g x == x is g at some t, 1 ≤ t ≤ n, and g is greater at every smaller time
 -- Assumes nothing.
 use mathlib.Core.Path.{◌≡◌, refl, sym, ap, ◌∙◌, subst}

@@ -1,12 +1,12 @@
 -- Fractions, compared by cross multiplication; nothing is reduced.
---   frac l t   == l/t
---   no_bound    == 1/0, above every fraction with a positive denominator
---   a ⊑ b      == a is no greater than b
---   a ⊏ b      == a is smaller than b
---   less a b   == the test a ⊏ b;  at_most a b == the test a ⊑ b
+--   frac l t                == l/t
+--   no_bound                == 1/0, above every fraction with a positive denominator
+--   a ⊑ b                   == a is no greater than b
+--   a ⊏ b                   == a is smaller than b
+--   less a b                == the test a ⊏ b;  at_most a b == the test a ⊑ b
 --   lesser a b, greater a b == the lesser, the greater of two; the first where they are equal
---   least_over n g == the least of g 1, .., g n, the first that reaches it; 1/0 where there is none
---   greatest_of xs == the greatest of some fractions, the first that reaches it; 0/1 where there is none
+--   least_over n g          == the least of g 1, .., g n, the first that reaches it; 1/0 where there is none
+--   greatest_of xs          == the greatest of some fractions, the first that reaches it; 0/1 where there is none
 -- Assumes nothing.
 use Rattle.std.specs.Prelude.{ℕ, zero, suc, ◌*◌, ◌≤◌, ◌<◌, Bool, cond, List, [], ◌∷◌, leb, ltb}
 use Rattle.least.specs.declared.Frac.{Frac}

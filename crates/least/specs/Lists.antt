@@ -1,22 +1,22 @@
 -- Lists, in the paper's way of counting: places from 1, nothing is 0.
---   sum xs           == the sum of the numbers of a list
---   greatest xs      == the greatest number of a list, 0 where there is none
---   smallest xs      == the smallest number of a list, 0 where there is none
---   range a e        == the numbers a, a + 1, .., e
---   nth_or d k xs     == the k-th element of a list, counted from 1; d where there is none
---   first_of test xs  == the number, from 1, of the first element that passes the test; 0 where there is none
---   is_empty xs       == the list has no element
---   every test xs    == every element passes the test
---   some test xs     == some element passes the test
---   those test xs    == the elements that pass the test, in their order
---   joined xss       == the lists of a list, one behind another
+--   sum xs             == the sum of the numbers of a list
+--   greatest xs        == the greatest number of a list, 0 where there is none
+--   smallest xs        == the smallest number of a list, 0 where there is none
+--   range a e          == the numbers a, a + 1, .., e
+--   nth_or d k xs      == the k-th element of a list, counted from 1; d where there is none
+--   first_of test xs   == the number, from 1, of the first element that passes the test; 0 where there is none
+--   is_empty xs        == the list has no element
+--   every test xs      == every element passes the test
+--   some test xs       == some element passes the test
+--   those test xs      == the elements that pass the test, in their order
+--   joined xss         == the lists of a list, one behind another
 --   numbers_of test xs == the numbers, from 1, of the elements that pass the test
---   along f xs       == at each place of the list, f of what stands before it (nearest first), of it and of what stands behind it
---   every_along f xs  == the test f passes at each place of the list
---   zip3 f xs ys zs  == f of the elements at each place of three lists, as far as all of them go
---   last_or d xs      == the last element of a list, d where there is none
---   on_last f xs      == the list with f of its last element in its place
---   pad k z xs       == the first k elements of a list, z in the places that are left
+--   along f xs         == at each place of the list, f of what stands before it (nearest first), of it and of what stands behind it
+--   every_along f xs   == the test f passes at each place of the list
+--   zip3 f xs ys zs    == f of the elements at each place of three lists, as far as all of them go
+--   last_or d xs       == the last element of a list, d where there is none
+--   on_last f xs       == the list with f of its last element in its place
+--   pad k z xs         == the first k elements of a list, z in the places that are left
 -- Assumes nothing.
 use Rattle.std.specs.Prelude.{ℕ, zero, suc, ◌+◌, ◌-◌, min, max, Bool, true, false, List, [], ◌∷◌, ◌++◌}
 

@@ -1,7 +1,7 @@
 -- The least number with a property, by plain search through a range.
 --   least_from test a n == the first of the n numbers a, a + 1, .. that passes the test
---   least_up_to test e   == the least w, 1 ≤ w ≤ e, that passes the test
---   any_up_to test e     == some t, 1 ≤ t ≤ e, passes the test
+--   least_up_to test e  == the least w, 1 ≤ w ≤ e, that passes the test
+--   any_up_to test e    == some t, 1 ≤ t ≤ e, passes the test
 --   number_or0 l        == the number that a search found, 0 where it found none
 -- Assumes nothing.
 use Rattle.std.specs.Prelude.{ℕ, zero, suc, Bool, true, false}

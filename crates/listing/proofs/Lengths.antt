@@ -1,5 +1,5 @@
 -- How long a listing can be.
---   listing_limit   == at most 30 bytes of a load line and, of each share, 55 bytes and 20 for each ceiling
+--   listing_limit  == at most 30 bytes of a load line and, of each share, 55 bytes and 20 for each ceiling
 --   ShortCeiling c == a name of at most 8 bytes and a number of at most 16, that of a task
 --   ShortShare s   == a name of at most 8 bytes, numbers of at most 1,000,000, and at most 8 ceilings
 -- Assumes nothing.

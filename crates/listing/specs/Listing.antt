@@ -1,15 +1,15 @@
 -- The listing of a plan, byte for byte.
---   Ceiling    == a lock's name and its ceiling, a task number
---   Share      == what is printed of a part: its name, its row, the row's bound, and its locks' ceilings in order of first mention
---   ceilings_under σ l names == the locks of these names, numbered from l on, each at its ceiling under the setting σ
+--   Ceiling                      == a lock's name and its ceiling, a task number
+--   Share                        == what is printed of a part: its name, its row, the row's bound, and its locks' ceilings in order of first mention
+--   ceilings_under σ l names     == the locks of these names, numbered from l on, each at its ceiling under the setting σ
 --   share_under name locks σ r b == what is printed of a part with this name and these lock names, with the row r, its bound b and the ceilings of σ
---   ceiling_line == `ceiling` lock, task number
---   share_line  == `share` name P Q X L t
---   share_lines == that line, then a `ceiling` line for each lock
---   load_line   == `load` name L t of a share
---   load_share  == the first share that reaches the load, as a list of one
---   listing_of  == the `load` line of the first share that reaches the load, then every share in file order
---   refused_line == `refused` number place
+--   ceiling_line                 == `ceiling` lock, task number
+--   share_line                   == `share` name P Q X L t
+--   share_lines                  == that line, then a `ceiling` line for each lock
+--   load_line                    == `load` name L t of a share
+--   load_share                   == the first share that reaches the load, as a list of one
+--   listing_of                   == the `load` line of the first share that reaches the load, then every share in file order
+--   refused_line                 == `refused` number place
 -- Assumes nothing.
 use Rattle.std.specs.Prelude.{ℕ, suc, List, [], ◌∷◌, ◌++◌, map, take}
 use Rattle.least.specs.declared.Frac.{Frac}

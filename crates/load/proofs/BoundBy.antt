@@ -1,7 +1,7 @@
 -- The turns of the search for the bound of a row by columns, on plain numbers.
---   load_by periods sums n s period own t == L(t) of a row whose own cost and blocking are `own`, below the rows from the place s on
+--   load_by periods sums n s period own t             == L(t) of a row whose own cost and blocking are `own`, below the rows from the place s on
 --   BestBy periods sums n s period own last best wait == `best` is the least ratio of the times up to `last`, or one that is sought (`LeastRatio`)
---   sought_by best wait == the linear supply by which the load of a time is met if the time is looked for
+--   sought_by best wait                               == the linear supply by which the load of a time is met if the time is looked for
 -- Assumes nothing.
 use Prim.Native.Nat.{ℕ, suc, ◌+◌, ◌-◌, ◌*◌, ◌≤◌, ◌<◌}
 use native.Mathlib.Omega.{arith}

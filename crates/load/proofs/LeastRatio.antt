@@ -1,9 +1,9 @@
 -- The least ratio L(t)/t over 1 ≤ t ≤ P, for a monotone L from 1 on, in steps that pass over many times. A ratio num/den to begin with is one that some
 -- time attains, or 1/1. With `wait` 0 a time that reaches it is looked for, with `wait` 1 a time below it: one with den × L(t) + wait ≤ num × t. A time that is
 -- found is moved to the end of its stretch, and its ratio taken; or a smaller one that some time attains, which is again to be reached.
---   Sought num den wait  == no time has reached num/den yet, but one will, or it is 1/1
---   Found num den wait   == num/den is L(den)/den, and the times before den are above it
---   Best n num den wait  == no time up to n is looked for, and num/den is sought or found
+--   Sought num den wait == no time has reached num/den yet, but one will, or it is 1/1
+--   Found num den wait  == num/den is L(den)/den, and the times before den are above it
+--   Best n num den wait == no time up to n is looked for, and num/den is sought or found
 -- Assumes nothing.
 use Prim.Native.Nat.{ℕ, ◌+◌, ◌*◌, ◌≤◌, ◌<◌}
 use native.Mathlib.Nat.{mul_comm, mul_left_comm, mul_right_comm, mul-add, mul-le-mul_left, mul-le-mul_right, mul-lt-mul_of_pos_left, mul-lt-mul_of_pos_right, le_of_mul-le-mul_left, lt_of_mul-lt-mul_left, lt_of_mul-lt-mul_right}

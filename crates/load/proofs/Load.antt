@@ -1,6 +1,6 @@
 -- The system test and the load in the paper's words, and loads are monotone.
 --   Bound lower s higher L t == L = L(t) ≤ t, 1 ≤ t ≤ P_s, no time up to P_s has a smaller ratio, and no smaller time has this one
---   Asks r s  == r has the period of s and costs no more;  Under r s == and holds no longer
+--   Asks r s                 == r has the period of s and costs no more;  Under r s == and holds no longer
 -- Assumes nothing.
 use mathlib.Core.Path.{◌≡◌, refl, sym, ap, ◌∙◌}
 use mathlib.Core.Logic.{◌⊎◌, inl, inr, ⊎_elim, ◌↔◌}

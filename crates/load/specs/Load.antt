@@ -1,13 +1,13 @@
 -- The system test and the load (document 001, equations 4 to 9) of a list of rows, lowest priority first.
---   demand_of rows t == Σ ⌈t/P_k⌉×(Q_k+X_k) over these rows
---   held_below lower == the greatest X of these lower rows; 0 if there are none
---   load_at lower s higher t == L(t) = Q_s + X_s + Σ ⌈t/P_k⌉×(Q_k+X_k) over higher rows k, plus the greatest X of lower rows
+--   demand_of rows t          == Σ ⌈t/P_k⌉×(Q_k+X_k) over these rows
+--   held_below lower          == the greatest X of these lower rows; 0 if there are none
+--   load_at lower s higher t  == L(t) = Q_s + X_s + Σ ⌈t/P_k⌉×(Q_k+X_k) over higher rows k, plus the greatest X of lower rows
 --   row_passes lower s higher == some t, 1 ≤ t ≤ P_s, has L(t) ≤ t
---   passes_system rows == every row passes
---   bound_of lower s higher == the least L(t)/t among those t, with the smallest such t; 1/0 where there is no such t
---   bounds_of rows == the bound of every row
---   load_of rows   == the load: the greatest bound
---   load_row rows  == its row, by number: the first that reaches it
+--   passes_system rows        == every row passes
+--   bound_of lower s higher   == the least L(t)/t among those t, with the smallest such t; 1/0 where there is no such t
+--   bounds_of rows            == the bound of every row
+--   load_of rows              == the load: the greatest bound
+--   load_row rows             == its row, by number: the first that reaches it
 -- A load of 1 is admitted: L(t) ≤ t, not L(t) < t.
 -- Assumes nothing.
 use Rattle.std.specs.Prelude.{ℕ, ◌+◌, ◌*◌, Bool, cond, List, map, leb}

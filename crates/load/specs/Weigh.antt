@@ -1,11 +1,11 @@
 -- Weighing rows that were set by hand: questions 12 and 13, then every row's bound and the load.
---   RowFits r    == 1 ≤ Q ≤ P ≤ 1,000,000 and X ≤ 1,000,000
---   row_in_range r == its test
---   weigh_questions rows == questions 12 (0 for a wrong row count, else the first bad row) and 13 (first row without a time t)
---   weigh_of rows == the answer, for every list of rows
---   rows_of rows  == the rows that the struct `Rows` holds
+--   RowFits r             == 1 ≤ Q ≤ P ≤ 1,000,000 and X ≤ 1,000,000
+--   row_in_range r        == its test
+--   weigh_questions rows  == questions 12 (0 for a wrong row count, else the first bad row) and 13 (first row without a time t)
+--   weigh_of rows         == the answer, for every list of rows
+--   rows_of rows          == the rows that the struct `Rows` holds
 --   struct_questions rows == the questions of such a struct: a count above its sixteen places is a wrong row count too
---   weigh_rows rows == the answer, for every such struct
+--   weigh_rows rows       == the answer, for every such struct
 -- Assumes nothing.
 use Rattle.std.specs.Prelude.{◌≤◌, Bool, not, ◌&&◌, List, [], ◌∷◌, leb, length, take}
 use Rattle.least.specs.declared.Frac.{Frac}

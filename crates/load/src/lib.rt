@@ -252,9 +252,9 @@ fn first_bad(rows: Rows) -> usize
 }
 
 // The number of the first of n bounds behind which there is no time; 0 where there is none.
-fn first_late(bounds: &[Frac; 16], n: usize) -> usize
-    requires { (n ≤ row_limit) × (n ≤ length bounds.now) }
-    ensures { result ≡ first_of (λ b. not (has_time b)) (take n bounds.now) }
+fn first_late(bounds: [Frac; 16], n: usize) -> usize
+    requires { (n ≤ row_limit) × (n ≤ length bounds) }
+    ensures { result ≡ first_of (λ b. not (has_time b)) (take n bounds) }
 {
     let mut k = 0;
     while k < n {
@@ -268,9 +268,9 @@ fn first_late(bounds: &[Frac; 16], n: usize) -> usize
 }
 
 // The number of the first of n bounds that reaches the greatest.
-fn greatest_row(bounds: &[Frac; 16], n: usize) -> usize
-    requires { FineBounds bounds.now n × (1 ≤ n) × (n ≤ row_limit) }
-    ensures { result ≡ first_of (at_most (greatest_of (take n bounds.now))) (take n bounds.now) }
+fn greatest_row(bounds: [Frac; 16], n: usize) -> usize
+    requires { FineBounds bounds n × (1 ≤ n) × (n ≤ row_limit) }
+    ensures { result ≡ first_of (at_most (greatest_of (take n bounds))) (take n bounds) }
 {
     let mut j = 0;
     let mut k = 1;
@@ -308,11 +308,11 @@ fn weigh_in_range(rows: Rows) -> Weighed
     let sums = columns.sums;
     let holdings = columns.holdings;
     let bounds = bounds_of(&periods, &sums, &holdings, n);
-    let late = first_late(&bounds, n);
+    let late = first_late(bounds, n);
     if 0 < late {
         return refused(Refusal::NoTime(late as u64));
     }
-    let row = greatest_row(&bounds, n);
+    let row = greatest_row(bounds, n);
     let load = bounds[row - 1];
     Weighed {
         outcome: Outcome::Done,

@@ -1,6 +1,6 @@
 -- Each part of a file that can be read has a task: `part` and `end` may not follow a `part` line directly.
---   AllSome ps  == each of these parts has a task
---   TaskSeen a  == above, each part but the last has a task, and the last too unless its `part` line stands directly above
+--   AllSome ps == each of these parts has a task
+--   TaskSeen a == above, each part but the last has a task, and the last too unless its `part` line stands directly above
 -- Assumes nothing.
 use Prim.Native.Nat.{ℕ, ◌≤◌}
 use native.Mathlib.Omega.{arith}

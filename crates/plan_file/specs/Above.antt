@@ -1,10 +1,10 @@
 -- What the lines above one say.
 --   FileLock, FileTask, FilePart == a lock, a task, a part as the file gives them: names are bytes, tasks and locks stand in file order
---   Above       == what the lines above say: the parts so far, and the record directly above (`no_record` above line 1)
---   this_part a  == the part that the next `task` or `lock` line belongs to
---   this_task a  == the task that the next `lock` line belongs to
---   lock_names p == the different lock names of a part, in order of first mention
---   after a r   == what the lines up to the record r say
+--   Above                        == what the lines above say: the parts so far, and the record directly above (`no_record` above line 1)
+--   this_part a                  == the part that the next `task` or `lock` line belongs to
+--   this_task a                  == the task that the next `lock` line belongs to
+--   lock_names p                 == the different lock names of a part, in order of first mention
+--   after a r                    == what the lines up to the record r say
 -- Assumes nothing.
 use Rattle.std.specs.Prelude.{ℕ, List, [], ◌∷◌, ◌++◌, map}
 use Rattle.least.specs.Lists.{joined, last_or, on_last}

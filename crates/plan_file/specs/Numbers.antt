@@ -1,12 +1,12 @@
 -- What a readable file is made of, for every definition above reading: its parts, each with its names and its numbers.
---   PlanPart    == the name of a part, the names of its locks in order of first mention, and its numbers as the local test sees them
---   tasks_in p   == its tasks 1 to n; of each, how long it holds the locks 1 to m, in order of first mention
---   namers ps name == the parts of the file that name this lock; ps are all parts of the file
+--   PlanPart             == the name of a part, the names of its locks in order of first mention, and its numbers as the local test sees them
+--   tasks_in p           == its tasks 1 to n; of each, how long it holds the locks 1 to m, in order of first mention
+--   namers ps name       == the parts of the file that name this lock; ps are all parts of the file
 --   is_shared_in ps name == the lock of this name is shared: more than one part names it. A lock named in just one part of the file is private
---   plan_part ps p == the part p of the file, as a `PlanPart`;  plan_parts ps == all of them
---   numbered a  == the same of an answer
---   parts_of s   == the parts of the file s, or the refusal of its first question with a no
---   part_at ps k == part k of these, counted from 1; `no_plan_part`, which has no tasks, where there is no such part
+--   plan_part ps p       == the part p of the file, as a `PlanPart`;  plan_parts ps == all of them
+--   numbered a           == the same of an answer
+--   parts_of s           == the parts of the file s, or the refusal of its first question with a no
+--   part_at ps k         == part k of these, counted from 1; `no_plan_part`, which has no tasks, where there is no such part
 -- Assumes nothing.
 use Rattle.std.specs.Prelude.{ℕ, Bool, cond, List, [], ◌∷◌, map, leb, length}
 use Rattle.least.specs.Lists.{nth_or, those}

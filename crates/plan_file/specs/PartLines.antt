@@ -1,5 +1,5 @@
 -- The lines of each part of a file.
---   own_lines ls     == of the lines behind a `part` line, those of its part: up to the next `part` line or the `end` line, these left out
+--   own_lines ls      == of the lines behind a `part` line, those of its part: up to the next `part` line or the `end` line, these left out
 --   lines_by_part ls  == for each `part` line, in file order: it and its part's lines behind it
 --   lines_of_part k s == the lines of part k of the file s, counted from 1; none where there is no such part
 -- Assumes nothing.

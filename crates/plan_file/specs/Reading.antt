@@ -1,9 +1,9 @@
 -- Questions 1 to 9 in their order, and the file that they let through.
---   allowed_here a r  == question 4: the record r is allowed behind the lines above
+--   allowed_here a r   == question 4: the record r is allowed behind the lines above
 --   questions_at n a l == questions 2 to 9 of the line l, which has the number n
---   read_lines n a ls == the lines ls, the first of which has the number n, behind what stands above
---   read_from n s     == the parts of the file s, whose first line has the number n, or the refusal of its first question with a no
---   read_file s       == the same of a file by itself: its lines are numbered from 1
+--   read_lines n a ls  == the lines ls, the first of which has the number n, behind what stands above
+--   read_from n s      == the parts of the file s, whose first line has the number n, or the refusal of its first question with a no
+--   read_file s        == the same of a file by itself: its lines are numbered from 1
 -- A file is readable if `read_file` answers.
 -- Assumes nothing.
 use Rattle.std.specs.Prelude.{ℕ, suc, Bool, true, false, not, cond, ◌&&◌, List, [], ◌∷◌, map, leb, length}

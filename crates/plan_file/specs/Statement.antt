@@ -1,9 +1,9 @@
 -- In which cases a file is refused by questions 1 to 9, and in which it is readable.
---   said a ls         == what the lines up to the last of ls say, where a is what the lines above them say
---   AllYes n a ls     == every question of every one of these lines has the answer yes; the first of them has the number n
---   StopsAt n a ls r  == one of these lines has a no with the refusal r, and all before it has yes
---   RefusedAt s r     == the file s is refused with r: it is too long; a line has a no; or it runs out before `end`
---   AnsweredBy s ps   == the file s is readable, and ps are its parts
+--   said a ls                == what the lines up to the last of ls say, where a is what the lines above them say
+--   AllYes n a ls            == every question of every one of these lines has the answer yes; the first of them has the number n
+--   StopsAt n a ls r         == one of these lines has a no with the refusal r, and all before it has yes
+--   RefusedAt s r            == the file s is refused with r: it is too long; a line has a no; or it runs out before `end`
+--   AnsweredBy s ps          == the file s is readable, and ps are its parts
 --   NamedByAnother ps k name == a part of ps other than part k names the lock of this name
 -- Assumes nothing.
 use Rattle.std.specs.Prelude.{ℕ, ◌+◌, ◌≤◌, ◌<◌, ◌≡◌, true, false, length}

@@ -1,8 +1,8 @@
 -- The refusals of a chart: 1 to 11 are the plan's, 19 comes at the first part with a period that does not divide 720, then 14 if fewer than 720 bytes are lent.
---   least_chart ps == the chart of the parts with the rows of least load
+--   least_chart ps  == the chart of the parts with the rows of least load
 --   at_once room ps == this chart, or the refusal of the first no among 10, 11, 19 and 14
---   OfNoPlan r    == a refusal by questions 1 to 11
---   first_out plan == the first part with a period that does not divide 720
+--   OfNoPlan r      == a refusal by questions 1 to 11
+--   first_out plan  == the first part with a period that does not divide 720
 -- Assumes nothing.
 use Prim.Native.Nat.{ℕ, suc, ◌/◌, ◌%◌, ◌<◌}
 use native.Mathlib.Nat.{div-add-mod', mul-mod_left}

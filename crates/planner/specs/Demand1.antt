@@ -1,8 +1,8 @@
 -- Demand 1 as a statement: whoever hands over a plan file, hand-set shares or a buffer, of any bytes, numbers and length, gets a complete answer or
 -- one numbered refusal, by the fixed order of questions, and a refusal writes nothing into the lent buffer. In which case each refusal comes is demand 2.
---   OfTheFile r     == a refusal by a question of reading: 1 to 9
---   OfThePlan r     == such a refusal, or one by questions 10, 11 or 14
---   OfTheChart r    == such a refusal, or one by questions 10, 11, 19 or 14
+--   OfTheFile r          == a refusal by a question of reading: 1 to 9
+--   OfThePlan r          == such a refusal, or one by questions 10, 11 or 14
+--   OfTheChart r         == such a refusal, or one by questions 10, 11, 19 or 14
 --   LentBytes Promise Of == demand 1 of an operation that writes into lent bytes: it promises `Promise` of the file, the lent bytes before, the result
 --                      and the lent bytes after, and its refusals are among `Of`
 --   Demand1 Promise == demand 1 of the operations, of which a plan promises `Promise`; `plan` promises `PlanAnswered`, and `chart` `ChartAnswered`

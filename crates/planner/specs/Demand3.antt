@@ -1,14 +1,14 @@
 -- Demand 3 as a statement, for every readable file and all lent bytes, over every setting and every budget.
 --   printed_rows shares == the rows that are printed
 --   shown_for p s       == the ceilings shown for the X that is printed of the part p
---   PrintedShare p s   == what is printed of the part p is its part of a choice, with the ceilings shown for its X
---   Printed ps text    == what demand 3 says of a printed plan
---   NoBudgetAt ps j    == part j is the first that has no permitted setting with a budget
---   NoneToPlan ps r    == no choice passes, and r is the refusal that says so: 10 at the first part without a budget, else 11
---   Demanded ps room a == a is what demand 3 asks of a plan of the parts ps, where this many bytes are lent
---   Demand3 Promise    == demand 3 of every operation that promises `Promise` of the file, the lent bytes before, the result and the lent bytes after;
+--   PrintedShare p s    == what is printed of the part p is its part of a choice, with the ceilings shown for its X
+--   Printed ps text     == what demand 3 says of a printed plan
+--   NoBudgetAt ps j     == part j is the first that has no permitted setting with a budget
+--   NoneToPlan ps r     == no choice passes, and r is the refusal that says so: 10 at the first part without a budget, else 11
+--   Demanded ps room a  == a is what demand 3 asks of a plan of the parts ps, where this many bytes are lent
+--   Demand3 Promise     == demand 3 of every operation that promises `Promise` of the file, the lent bytes before, the result and the lent bytes after;
 --                         `plan` promises `PlanAnswered`
---   RefusedToPlan r    == r is refused with 10 or 11
+--   RefusedToPlan r                                   == r is refused with 10 or 11
 --   InWords ps before r after, Demand3InWords Promise == the same, sentence by sentence
 -- Assumes nothing.
 use Rattle.std.specs.Prelude.{ℕ, ◌≤◌, ◌<◌, ◌≡◌, ◌⊎◌, ◌↔◌, true, List, map, length}

@@ -1,15 +1,15 @@
 -- The local test in the paper's words: of a lock among the tasks `ts`, and of a partition v under the setting σ.
---   LockHolding ts l r w == w is the holding time of lock l at r: the least whole number w ≥ 1 with g + Σ ⌈w/T_k⌉×C_k ≤ w, summed over tasks k > r
---   PermittedAt v l r    == a shared lock l may have the ceiling r: it is from the lock's lowest to n, and w exists and is at most the smallest deadline among the users
---   CeilingFits v l r    == r is a ceiling of lock l: a shared lock may have it, a private lock keeps its lowest ceiling and asks no permission
---   SharedLock v l       == l is the number of a shared lock
---   PartHolding v σ X    == X is the greatest w of the shared locks, or 0 without shared locks
+--   LockHolding ts l r w   == w is the holding time of lock l at r: the least whole number w ≥ 1 with g + Σ ⌈w/T_k⌉×C_k ≤ w, summed over tasks k > r
+--   PermittedAt v l r      == a shared lock l may have the ceiling r: it is from the lock's lowest to n, and w exists and is at most the smallest deadline among the users
+--   CeilingFits v l r      == r is a ceiling of lock l: a shared lock may have it, a private lock keeps its lowest ceiling and asks no permission
+--   SharedLock v l         == l is the number of a shared lock
+--   PartHolding v σ X      == X is the greatest w of the shared locks, or 0 without shared locks
 --   BlockingIs m σ lower b == b is the blocking of task i, where the i − 1 tasks before it are `lower`: the greatest c of one of them on a lock with ceiling ≥ i, else 0
---   PassesBy got v σ     == for each i some t, 1 ≤ t ≤ D_i, has C_i + Σ_{k>i} ⌈t/T_k⌉×C_k + blocking ≤ got(t)
---   Passes v σ Q         == the same with supply(t)
---   LeastPassing v σ Q   == Q is the least budget, 1 ≤ Q ≤ P, that passes
---   ShownAt v x l r      == r is the ceiling shown of a shared lock l for x: the lowest whose w is at most x and permitted
---   LocalTest            == these are the permitted settings, holding times, blockings, budgets, candidates and ceilings that the answers are made of
+--   PassesBy got v σ       == for each i some t, 1 ≤ t ≤ D_i, has C_i + Σ_{k>i} ⌈t/T_k⌉×C_k + blocking ≤ got(t)
+--   Passes v σ Q           == the same with supply(t)
+--   LeastPassing v σ Q     == Q is the least budget, 1 ≤ Q ≤ P, that passes
+--   ShownAt v x l r        == r is the ceiling shown of a shared lock l for x: the lowest whose w is at most x and permitted
+--   LocalTest              == these are the permitted settings, holding times, blockings, budgets, candidates and ceilings that the answers are made of
 -- Assumes nothing.
 use Rattle.std.specs.Prelude.{ℕ, suc, ◌+◌, ◌≤◌, ◌≡◌, true, false, ◌⊎◌, ◌↔◌, length}
 use mathlib.Core.List.{List, ◌∷◌, ◌++◌, Memᴰ}

@@ -1,13 +1,13 @@
 -- Demand 2, its half about refusals: each refusal comes if its question has the answer no and those before it have yes, and in no other case.
---   RefusedBehind s questions r == the file s is refused with r by questions 1 to 9, or it is readable and r comes from the questions of its parts
+--   RefusedBehind s questions r                     == the file s is refused with r by questions 1 to 9, or it is readable and r comes from the questions of its parts
 --   plan_questions room ps, chart_questions room ps == what a plan and a chart ask, in this order, behind questions 1 to 9
---   PartOf s k p     == the file s is readable, and p is its part k
---   NotAPart s k     == the file s is readable, and k is not the number of a part
---   SupplyFits P Q t == 1 ≤ Q ≤ P ≤ 1,000,000 and t ≤ 1,000,000
---   Divides P n      == P divides n: a whole number of periods of P makes n ticks
---   InCycle rows     == every period divides 720
---   OutOfCycleAt plan k == part k is the first of the plan with a period that does not divide 720
---   EveryRefusal     == in which case each operation gives each refusal
+--   PartOf s k p                                    == the file s is readable, and p is its part k
+--   NotAPart s k                                    == the file s is readable, and k is not the number of a part
+--   SupplyFits P Q t                                == 1 ≤ Q ≤ P ≤ 1,000,000 and t ≤ 1,000,000
+--   Divides P n                                     == P divides n: a whole number of periods of P makes n ticks
+--   InCycle rows                                    == every period divides 720
+--   OutOfCycleAt plan k                             == part k is the first of the plan with a period that does not divide 720
+--   EveryRefusal                                    == in which case each operation gives each refusal
 -- Assumes nothing.
 use Rattle.std.specs.Prelude.{ℕ, ◌*◌, ◌≤◌, ◌<◌, ◌≡◌, ◌⊎◌, ◌↔◌, List, [], ◌∷◌, ◌++◌, length, leb}
 use Rattle.refusal.specs.declared.Refusal.{Refusal}

@@ -1,7 +1,7 @@
 -- The answers of the operations as callers in C and Rust get them: an outcome is its number and its place, 0 and 0 on success.
 --   plan_exported, candidates_exported, name_exported, weigh_exported, supply_exported == the answer of each operation so
---   BytesExported Promise s before r after == r is so the result that an operation promises, of the file s and the lent bytes before and after
---   NameExported s k r == r is the name of part k in the file s so, and its bytes stand there
+--   BytesExported Promise s before r after                                             == r is so the result that an operation promises, of the file s and the lent bytes before and after
+--   NameExported s k r                                                                 == r is the name of part k in the file s so, and its bytes stand there
 -- Assumes nothing.
 use Rattle.std.specs.Prelude.{ℕ, ◌≡◌, List, take, drop}
 use Rattle.refusal.specs.Number.{number_of, place_of}

@@ -1,13 +1,13 @@
 -- Request M-100: private locks, sentence by sentence.
---   PrivateLock v l    == l is the number of a private lock
+--   PrivateLock v l     == l is the number of a private lock
 --   lock_name p l       == the name of lock l of the part p, counted from 1
---   SharedAlike v σ τ  == two settings give the shared locks the same ceilings
+--   SharedAlike v σ τ   == two settings give the shared locks the same ceilings
 --   keeps_private v τ   == the setting that has the ceilings of τ for the shared locks, and every private lock at its lowest ceiling
 --   with_shared v marks == the partition v, where these of its locks are shared
 --   FewerShared v marks == no lock is shared then that was not before
---   Relieved p q       == the part q has the numbers of the part p, and no lock is shared that was not
+--   Relieved p q        == the part q has the numbers of the part p, and no lock is shared that was not
 --   no_ceiling          == what stands for a `ceiling` line that there is not
---   PrivateLocks       == what a private lock is, and what it does
+--   PrivateLocks        == what a private lock is, and what it does
 -- Assumes nothing.
 use Rattle.std.specs.Prelude.{ℕ, suc, ◌≤◌, ◌≡◌, ◌↔◌, Bool, true, false, cond, length}
 use mathlib.Core.List.{List, [], Memᴰ}

@@ -1,13 +1,13 @@
 -- Request M-103: how great a number may be, and how great the sums and products over such numbers become.
---   NumberUpTo limit bs  == the bytes of a number field are a number from 1 to the limit, in digits, without leading zero
---   number_fields r       == the number fields of a record
---   SevenAsks limit n questions fields == one question, between those with lower and those with higher numbers, asks whether all these fields are such numbers; a no is refused with 7 at n
+--   NumberUpTo limit bs                     == the bytes of a number field are a number from 1 to the limit, in digits, without leading zero
+--   number_fields r                         == the number fields of a record
+--   SevenAsks limit n questions fields      == one question, between those with lower and those with higher numbers, asks whether all these fields are such numbers; a no is refused with 7 at n
 --   RowUpTo limit r, SupplyUpTo limit P Q t == 1 ≤ Q ≤ P ≤ limit and X ≤ limit, or t ≤ limit
---   NumbersUpTo limit    == file numbers and hand-set numbers may be up to the limit, for all fields, supply and X included
---   Weighable rows       == question 12 lets these rows through
---   greatest_need limit   == what a task needs that has only tasks above it, each with C = T = limit − 1, which come twice in so many ticks as the limit has
---   greatest_load limit   == L(t) of a row at the limit that has only rows above it, each with P = Q = 1 and X at the limit, which come in every tick
---   GreatestValues limit == how great each sum and product of such numbers becomes; 64 bits hold the greatest of them
+--   NumbersUpTo limit                       == file numbers and hand-set numbers may be up to the limit, for all fields, supply and X included
+--   Weighable rows                          == question 12 lets these rows through
+--   greatest_need limit                     == what a task needs that has only tasks above it, each with C = T = limit − 1, which come twice in so many ticks as the limit has
+--   greatest_load limit                     == L(t) of a row at the limit that has only rows above it, each with P = Q = 1 and X at the limit, which come in every tick
+--   GreatestValues limit                    == how great each sum and product of such numbers becomes; 64 bits hold the greatest of them
 -- Assumes nothing.
 use Rattle.std.specs.Prelude.{ℕ, ◌+◌, ◌-◌, ◌*◌, ◌^◌, ◌≤◌, ◌<◌, ◌≡◌, Bool, true, false, ◌↔◌, ltb, length}
 use mathlib.Core.List.{List, [], ◌∷◌, ◌++◌, Memᴰ}

@@ -1,6 +1,6 @@
 -- The parts that were read line by line, marked one after another, are the parts of the file.
---   locks_at parts k == the lock names of the part at the place k
---   marked marks r  == the part r with these marks
+--   locks_at parts k               == the lock names of the part at the place k
+--   marked marks r                 == the part r with these marks
 --   Marking codes n before after k == `after` is `before` with the parts at the places below k marked
 -- Assumes nothing.
 use Prim.Native.Nat.{ℕ, ◌+◌, ◌≤◌, ◌<◌}

@@ -1,5 +1,5 @@
 -- Where the names of the parts stand, line by line.
---   spans_read n opened name all == the stretches of the names of n parts: those of the closed ones, and that of the open one
+--   spans_read n opened name all         == the stretches of the names of n parts: those of the closed ones, and that of the open one
 --   Spanned s at n opened name all ended == those of the lines before `at`, and those from there on are the file's; behind the end all are stored
 -- Assumes nothing.
 use Prim.Native.Nat.{ℕ, zero, suc, ◌+◌, ◌-◌, ◌≤◌, ◌<◌}

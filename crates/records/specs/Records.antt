@@ -1,7 +1,7 @@
 -- The records of a file.
---   Record      == one of the four records with its fields, as bytes; or none of them
---   record_of fs == question 3: which record the fields of a line are
---   record_in l  == the record on a line
+--   Record            == one of the four records with its fields, as bytes; or none of them
+--   record_of fs      == question 3: which record the fields of a line are
+--   record_in l       == the record on a line
 --   name_span at name == where the name of a record stands whose line begins at `at`: behind a word of four letters and a tab
 -- Assumes nothing.
 use Rattle.std.specs.Prelude.{ℕ, ◌+◌, cond, List, [], ◌∷◌, length}

@@ -1,5 +1,5 @@
 -- In which case a refusal comes.
---   all_yes qs    == every question has the answer yes
+--   all_yes qs   == every question has the answer yes
 --   FirstNo qs r == a question with the refusal r has the answer no, and those before it have yes
 -- Assumes nothing.
 use Rattle.std.specs.Prelude.{◌≡◌, Bool, true, false, ◌&&◌, List, [], ◌∷◌, ◌++◌}

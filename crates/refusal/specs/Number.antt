@@ -1,8 +1,8 @@
 -- The number and the place of every answer, as the papers count them. On success both are zero.
---   refusal_number r == the number of the question that has the answer no
---   refusal_place r  == its place: a line, a part or a row, counted from 1, or 0
+--   refusal_number r        == the number of the question that has the answer no
+--   refusal_place r         == its place: a line, a part or a row, counted from 1, or 0
 --   number_of o, place_of o == the same of an outcome
---   is_of_the_file r   == the question is one of those with which the file is read, 1 to 9: about its length and its lines
+--   is_of_the_file r        == the question is one of those with which the file is read, 1 to 9: about its length and its lines
 -- Assumes nothing.
 use Rattle.std.specs.Prelude.{ℕ, Bool, true, false}
 use Rattle.refusal.specs.declared.Refusal.{Refusal}

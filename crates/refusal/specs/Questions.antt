@@ -1,7 +1,7 @@
 -- Questions in order: the first "no" ends the work.
---   ask r b    == a question: the refusal that a no gives, and whether the answer is yes
+--   ask r b     == a question: the refusal that a no gives, and whether the answer is yes
 --   first_no qs == the refusal of the first question with a no; done where every answer is yes
---   Answer A   == what an operation works out: a value, or a refusal
+--   Answer A    == what an operation works out: a value, or a refusal
 --   outcome_of  == an answer's outcome
 -- Assumes nothing.
 use Rattle.std.specs.Prelude.{Bool, cond, List, [], ◌∷◌}

@@ -1,5 +1,5 @@
 -- Question 2: what the bytes of a line may be.
---   is_allowed b  == byte 9 and bytes 33 to 126
+--   is_allowed b   == byte 9 and bytes 33 to 126
 --   line_is_good l == the line is ended by byte 10, with only such bytes before that
 -- Assumes nothing.
 use Rattle.std.specs.Prelude.{ℕ, Bool, ◌&&◌, ◌||◌, leb, eqb}

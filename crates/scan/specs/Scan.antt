@@ -1,13 +1,13 @@
 -- What the scan of a line says (request M-102): whether question 2 holds and, if so, where the line's first five tabs stand.
---   start_behind ls  == where the line behind these lines begins: each has its bytes, and byte 10
---   is_tab b         == byte 9
---   tabs_in bs       == how many tabs there are
---   TabAt bs k i    == byte i of bs, from 0, is the tab with k tabs before it
---   Found l at r    == r says of the line l, which begins at `at`, where its byte 10 stands, how many there are of its first five tabs, and where each of them stands
---   OnlyZeros r     == r says nothing
---   ScanIs l at r   == r is what the scan says of the line l, which begins at `at`
+--   start_behind ls       == where the line behind these lines begins: each has its bytes, and byte 10
+--   is_tab b              == byte 9
+--   tabs_in bs            == how many tabs there are
+--   TabAt bs k i          == byte i of bs, from 0, is the tab with k tabs before it
+--   Found l at r          == r says of the line l, which begins at `at`, where its byte 10 stands, how many there are of its first five tabs, and where each of them stands
+--   OnlyZeros r           == r says nothing
+--   ScanIs l at r         == r is what the scan says of the line l, which begins at `at`
 --   EveryLineScanned scan == this is what a scan says of every line of every file
---   ScanSettled     == there is one such answer for a line
+--   ScanSettled           == there is one such answer for a line
 -- Assumes nothing.
 use Rattle.std.specs.Prelude.{ℕ, suc, ◌+◌, ◌<◌, ◌≤◌, min, ◌≡◌, Bool, true, false, List, ◌∷◌, ◌++◌, map, eqb, length, take, get_or}
 use Rattle.least.specs.Lists.{sum, those}

@@ -1,7 +1,7 @@
 -- The descent through the choices. A state is the places of the parts' rows, the least load so far and the choice that has it.
---   Recorded best rec == rec has the load `best`, and every choice of no greater load comes after it
---   Descending places best rec == every choice of a smaller load than `best` is left at the places; `best` is 1/0, or recorded with rec
---   NoneBelow best    == no choice has a smaller load
+--   Recorded best rec           == rec has the load `best`, and every choice of no greater load comes after it
+--   Descending places best rec  == every choice of a smaller load than `best` is left at the places; `best` is 1/0, or recorded with rec
+--   NoneBelow best              == no choice has a smaller load
 --   places_left counts n places == how many places of n parts were not reached yet
 -- Assumes nothing.
 use Prim.Native.Nat.{ℕ, zero, suc, ◌+◌, ◌-◌, ◌*◌, ◌≤◌, ◌<◌}

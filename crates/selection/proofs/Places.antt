@@ -1,6 +1,6 @@
 -- The rows that parts offer, by their places in the arrays.
---   Later k a r    == r is a row of the part k, at the place a or behind it
---   Left places c  == a choice whose every row is Later than the place of its part
+--   Later k a r      == r is a row of the part k, at the place a or behind it
+--   Left places c    == a choice whose every row is Later than the place of its part
 --   chosen_at places == the choice of the rows at these places
 -- Assumes nothing.
 use Prim.Native.Nat.{ℕ, zero, suc, ◌+◌, ◌-◌, ◌≤◌, ◌<◌}

@@ -1,8 +1,8 @@
 -- The turns of `select`, on plain values.
 --   Selecting .. places best sums held == the descent has come to these places; `best` is fine, and so are the columns if a choice is recorded
---   Turn ..                   == the state of a turn: the places that the descent has come to, the best choice so far, and the columns at the places
---   rows_now t                 == the rows of these columns
---   Turned t best sums held x == with this best choice the descent has come to the places, and a row whose bound is not below `best` is blocked by x
+--   Turn ..                            == the state of a turn: the places that the descent has come to, the best choice so far, and the columns at the places
+--   rows_now t                         == the rows of these columns
+--   Turned t best sums held x          == with this best choice the descent has come to the places, and a row whose bound is not below `best` is blocked by x
 -- Assumes nothing.
 use Prim.Native.Nat.{ℕ, ◌+◌, ◌-◌, ◌*◌, ◌≤◌, ◌<◌}
 use native.Mathlib.Omega.{arith}

@@ -1,7 +1,7 @@
 -- The choice of least load. Each part offers a list of rows, in falling holding time.
---   choices offers     == every way to take one row of each part, those with the greater holding times first
---   lighter c d        == of two choices the one of smaller load, the first where their loads are equal
---   least_loaded cs     == the first choice of least load
+--   choices offers  == every way to take one row of each part, those with the greater holding times first
+--   lighter c d     == of two choices the one of smaller load, the first where their loads are equal
+--   least_loaded cs == the first choice of least load
 -- That it has the greatest holding time in every part that any of these choices of that load has is a theorem, not a search.
 -- Assumes nothing.
 use Rattle.std.specs.Prelude.{cond, List, [], ◌∷◌, map}

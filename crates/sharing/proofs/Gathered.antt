@@ -1,5 +1,5 @@
 -- The numbers of the lock names of all parts, gathered part after part.
---   code_at s ns j            == the number of the name at the place j of the names ns; 0 where there is none
+--   code_at s ns j           == the number of the name at the place j of the names ns; 0 where there is none
 --   Gathered s names codes k == `codes` holds those of the parts at the places below k, `names i` being the lock names of the part at i, and 0 in every other place
 -- Assumes nothing.
 use Prim.Native.Nat.{ℕ, ◌+◌, ◌*◌, ◌≤◌, ◌<◌}

@@ -1,7 +1,7 @@
 -- The linear value of (P,Q) at t, a straight line under the supply (in the field: linear supply bound function): Q/P × (t − 2(P−Q)). Document 000, paper C, equation (3).
 -- 1 ≤ Q ≤ P is understood.
 --   linear_times_p P Q t == P times the linear value, in signed whole numbers
---   LinearUnderSupply  == the linear value is never above the supply, and meets it at t = 2(P−Q) + kP, for every k (request M-108)
+--   LinearUnderSupply    == the linear value is never above the supply, and meets it at t = 2(P−Q) + kP, for every k (request M-108)
 -- Assumes nothing.
 use Rattle.std.specs.Prelude.{ℕ, ◌+◌, ◌-◌, ◌*◌, ◌≤◌, ◌≡◌, ℤ, pos, ◌-ℤ◌, ◌*ℤ◌, ◌≤ℤ◌}
 use Rattle.supply.specs.Supply.{supply_of}

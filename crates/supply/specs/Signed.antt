@@ -1,8 +1,8 @@
 -- Paper 01's sentence on the supply in signed whole numbers, where no difference is cut off at 0.
 --   larger a b            == the larger of two numbers
---   ceil_of z d            == ⌈z/d⌉, for d from 1 on: the least c with z ≤ c × d (laws `ceil_signed_covers`, `ceil_signed_least`)
---   signed_round P Q t     == k: the larger of ⌈(t − (P−Q))/P⌉ and 1
---   signed_supply P Q t    == the supply of (P,Q) in t ticks
+--   ceil_of z d           == ⌈z/d⌉, for d from 1 on: the least c with z ≤ c × d (laws `ceil_signed_covers`, `ceil_signed_least`)
+--   signed_round P Q t    == k: the larger of ⌈(t − (P−Q))/P⌉ and 1
+--   signed_supply P Q t   == the supply of (P,Q) in t ticks
 --   SignsMakeNoDifference == `supply_of` is this supply (law `supply_signed`)
 -- Assumes nothing.
 use Rattle.std.specs.Prelude.{ℕ, ◌≤◌, ◌≡◌, cond, ◌&&◌, ℤ, pos, ◌+ℤ◌, ◌-ℤ◌, ◌*ℤ◌}

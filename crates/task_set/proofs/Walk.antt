@@ -1,5 +1,5 @@
 -- The locks of a part by columns, from one walk over its tasks.
---   lock_at lowest longest deadlines l == the lock that the columns hold at the place l
+--   lock_at lowest longest deadlines l    == the lock that the columns hold at the place l
 --   Walked p k j lowest longest deadlines == the columns count the tasks before the place k in each lock of the part, and the task at k in the locks before the place j
 -- Assumes nothing.
 use Prim.Native.Nat.{ℕ, suc, ◌+◌, ◌≤◌, ◌<◌}

@@ -1,7 +1,7 @@
 -- Settings, and what they block. A setting gives each lock a ceiling, a task number: it is a function of the lock's number.
---   Setting           == a ceiling for each lock
---   blocked_by m σ i h == the greatest c of task h on a lock with ceiling ≥ i, else 0
---   blocking_of m σ lower == the blocking of the task above the tasks `lower`: of task i, where there are i − 1 of them
+--   Setting                        == a ceiling for each lock
+--   blocked_by m σ i h             == the greatest c of task h on a lock with ceiling ≥ i, else 0
+--   blocking_of m σ lower          == the blocking of the task above the tasks `lower`: of task i, where there are i − 1 of them
 --   need_of blocking task higher t == C_i + Σ_{k>i} ⌈t/T_k⌉×C_k + blocking, of the task i below the tasks `higher`
 -- Assumes nothing.
 use Rattle.std.specs.Prelude.{ℕ, suc, ◌+◌, cond, List, map, leb, length}

@@ -1,10 +1,10 @@
 -- A part has tasks 1 to n, lowest priority first: `ts` is the list of them, and n its length. It has locks 1 to m, in order of first mention.
---   held_for l task     == c: how long the task holds lock l at most; 0 where it does not use it
---   uses l task        == the task uses lock l
---   higher r ts        == the tasks k > r
---   demand_in ts w      == Σ ⌈w/T⌉×C over these tasks
---   lowest_ceiling l ts == the greatest task number that uses lock l
---   greatest_held l ts  == g: the greatest c of lock l in this part
+--   held_for l task        == c: how long the task holds lock l at most; 0 where it does not use it
+--   uses l task            == the task uses lock l
+--   higher r ts            == the tasks k > r
+--   demand_in ts w         == Σ ⌈w/T⌉×C over these tasks
+--   lowest_ceiling l ts    == the greatest task number that uses lock l
+--   greatest_held l ts     == g: the greatest c of lock l in this part
 --   smallest_deadline l ts == the smallest deadline among the users of lock l
 -- Assumes nothing.
 use Rattle.std.specs.Prelude.{ℕ, ◌*◌, Bool, List, map, leb, drop}

@@ -1,11 +1,11 @@
 -- Text as lists of bytes. Byte 9 (tab) parts the fields of a line, byte 10 ends it.
---   bytes "abc"  == the bytes of a text
---   same a b     == two lists of bytes are the same
---   among a as   == a list of bytes is one of several
---   distinct as  == several lists of bytes in the order of first mention, each once
---   lines_of s    == the lines of a file: each has its bytes, and whether byte 10 ends it
---   fields_of l   == the fields of a line's bytes: there is one more than there are tabs
---   line_of fs    == the bytes of a printed line: its fields with one tab between them, then byte 10
+--   bytes "abc" == the bytes of a text
+--   same a b    == two lists of bytes are the same
+--   among a as  == a list of bytes is one of several
+--   distinct as == several lists of bytes in the order of first mention, each once
+--   lines_of s  == the lines of a file: each has its bytes, and whether byte 10 ends it
+--   fields_of l == the fields of a line's bytes: there is one more than there are tabs
+--   line_of fs  == the bytes of a printed line: its fields with one tab between them, then byte 10
 -- Assumes nothing.
 use Rattle.std.specs.Prelude.{ℕ, Bool, true, false, cond, ◌&&◌, List, [], ◌∷◌, ◌++◌, eqb}
 use Prim.Native.String.{String, [] as nothing, ◌∷◌ as ◌then◌}

@@ -1,9 +1,9 @@
 -- The search for the least budget of a task. Places count from 0: the task at the place i has the number i + 1.
---   due_task costs i D     == the task at the place i, with its C and its deadline
---   passing_time P Q b task higher == the least t, 1 ≤ t ≤ D, at which the task's need is met
---   NoneMet P Q b task higher t   == it is not met before t
---   EnoughIs P x t from to r == r is the least budget from `from` up to `to`, `to` left out, that supplies x ticks in t ticks; `to` where there is none
---   budget_from P q b task higher  == the least budget from q to P with which the task passes
+--   due_task costs i D               == the task at the place i, with its C and its deadline
+--   passing_time P Q b task higher   == the least t, 1 ≤ t ≤ D, at which the task's need is met
+--   NoneMet P Q b task higher t      == it is not met before t
+--   EnoughIs P x t from to r         == r is the least budget from `from` up to `to`, `to` left out, that supplies x ticks in t ticks; `to` where there is none
+--   budget_from P q b task higher    == the least budget from q to P with which the task passes
 --   PassedIs P b task higher least r == r holds the budget `least`, and a time before which the task's need is not met with it
 -- Assumes nothing.
 use Rattle.std.specs.Prelude.{ℕ, suc, ◌-◌, ◌≤◌, ◌<◌, ◌≡◌, false, List, [], get_or}

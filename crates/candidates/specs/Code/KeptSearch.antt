@@ -1,14 +1,14 @@
 -- The search for the kept list, through falling x. Arrays hold the numbers of tasks and pairs by places, from 0.
---   first_time shared == the time of a lock before the search: past every limit where none is known yet, 0 where none counts
---   FirstTimes shared times == the array holds these of eight locks
---   budget_again P b tested task higher q == the least budget from q on; a blocking that was tested before asks for no more
---   budget_down step k q == the least budget from q on after the steps of the places k − 1, .., 0
---   BudgetIs step blocking n q r == r holds that budget of n places, and the blocking of each task, which is then tested
---   NoLonger below blocked j from to == the lock at the place j, from the table `below`, blocks no task from the place `from` up to `to` for longer than it is blocked
+--   first_time shared                          == the time of a lock before the search: past every limit where none is known yet, 0 where none counts
+--   FirstTimes shared times                    == the array holds these of eight locks
+--   budget_again P b tested task higher q      == the least budget from q on; a blocking that was tested before asks for no more
+--   budget_down step k q                       == the least budget from q on after the steps of the places k − 1, .., 0
+--   BudgetIs step blocking n q r               == r holds that budget of n places, and the blocking of each task, which is then tested
+--   NoLonger below blocked j from to           == the lock at the place j, from the table `below`, blocks no task from the place `from` up to `to` for longer than it is blocked
 --   NoneLonger below blocked before ceilings m == m ceilings are raised, and no lock blocks a task for longer that it reaches only now
---   has_pair v == some permitted setting has a budget: there is a kept pair
---   pairs_of budgets holdings n == the first n pairs of two arrays
---   LighterIs budgets holdings n s r == the first r of n pairs are left once those at the end with a sum of at least s are dropped
+--   has_pair v                                 == some permitted setting has a budget: there is a kept pair
+--   pairs_of budgets holdings n                == the first n pairs of two arrays
+--   LighterIs budgets holdings n s r           == the first r of n pairs are left once those at the end with a sum of at least s are dropped
 -- Assumes nothing.
 use Rattle.std.specs.Prelude.{ℕ, zero, suc, ◌+◌, ◌*◌, ◌≤◌, ◌<◌, ◌≡◌, Bool, true, false, cond, not, List, map, eqb, get_or, drop}
 use Rattle.least.specs.declared.Least.{Least}

@@ -1,7 +1,7 @@
 -- A name as one number: its bytes are the digits to base 256, the first byte the lowest.
---   byte_if b  == a byte of a name, 0 for any other
---   code_of bs == the number
---   code_if bs == the number of a name, 0 where the bytes are none
+--   byte_if b        == a byte of a name, 0 for any other
+--   code_of bs       == the number
+--   code_if bs       == the number of a name, 0 where the bytes are none
 --   place_of code cs == the place of a number among numbers, from 0; their count where it is not among them
 -- Assumes nothing.
 use Rattle.std.specs.Prelude.{ℕ, zero, suc, ◌+◌, ◌*◌, cond, List, [], ◌∷◌, eqb}

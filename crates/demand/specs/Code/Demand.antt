@@ -1,11 +1,11 @@
 -- What tasks, or rows, that come again and again ask for. They are given by columns: the periods in one array, the costs in another.
 --   demand_from periods costs n s t == Σ ⌈t/P⌉×C over those from the place s on, of n
---   FinePeriods periods n   == there are at most 16 periods, each from 1 to the limit of numbers
---   FineDemand periods costs n == and no cost is greater than that of a row
---   DemandIs periods costs n s t x == x is this demand, and within its limit
---   SameUntil periods n s t most e == e is from t to `most`, and in e ticks each task from the place s on comes as often as in t ticks
---   cost_limit   == the greatest cost: Q + X of a row; a task's C is less
---   demand_limit == the greatest demand in a time within the limit of numbers: sixteen costs in every tick of it
+--   FinePeriods periods n           == there are at most 16 periods, each from 1 to the limit of numbers
+--   FineDemand periods costs n      == and no cost is greater than that of a row
+--   DemandIs periods costs n s t x  == x is this demand, and within its limit
+--   SameUntil periods n s t most e  == e is from t to `most`, and in e ticks each task from the place s on comes as often as in t ticks
+--   cost_limit                      == the greatest cost: Q + X of a row; a task's C is less
+--   demand_limit                    == the greatest demand in a time within the limit of numbers: sixteen costs in every tick of it
 -- Assumes nothing.
 use Rattle.std.specs.Prelude.{ℕ, ◌-◌, ◌*◌, ◌≤◌, ◌<◌, ◌≡◌, List, map, get_or}
 use Rattle.least.specs.Round.{ceil_div}

@@ -1,11 +1,11 @@
 -- A demand that is met by a linear supply, and straight lines under a demand. Tasks, or rows, are given by columns as in crate demand; `own` is what is asked for
 -- beside their demand.
---   met_at by x v       == times × x + wait ≤ rate × v: a demand of x is met by the time v
---   first_met periods costs n s own by a limit == the least v, a ≤ v ≤ limit, by which `own` and the demand in v ticks are met
---   FineSupply by      == it gives at most a tick in every tick, and its numbers are in range
---   slope_scale         == a slope of 1 is so many ticks in so many: slopes are whole numbers
---   LineIs periods costs n s t line == from t ticks on the demand is not below the line
---   CrossingIs x slope by r == a demand of x and of the slope is met at no time before r
+--   met_at by x v                               == times × x + wait ≤ rate × v: a demand of x is met by the time v
+--   first_met periods costs n s own by a limit  == the least v, a ≤ v ≤ limit, by which `own` and the demand in v ticks are met
+--   FineSupply by                               == it gives at most a tick in every tick, and its numbers are in range
+--   slope_scale                                 == a slope of 1 is so many ticks in so many: slopes are whole numbers
+--   LineIs periods costs n s t line             == from t ticks on the demand is not below the line
+--   CrossingIs x slope by r                     == a demand of x and of the slope is met at no time before r
 --   NoEarlier periods costs n s own by t next r == r is `next` or later, and no time from t and `next` on by which the demand is met is before r
 -- Assumes nothing.
 use Rattle.std.specs.Prelude.{ℕ, suc, ◌+◌, ◌-◌, ◌*◌, ◌^◌, ◌≤◌, ◌<◌, Bool, List, leb}

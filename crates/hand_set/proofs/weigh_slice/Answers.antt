@@ -24,7 +24,7 @@ loop-i-preserved c =
     record {
       upto = omega arith;
       gathered =
-          c.with_row-all.ensures
+          c.with_row.ensures
           ∙ ap₂ (λ (all : Rows) (r : Row). with_row all i r) c.loop-i.invariant.gathered (get_d_any xs i _ (row 0 0 0) h)
           ∙ rows_next xs (length xs) i h l;
     }

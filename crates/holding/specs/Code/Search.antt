@@ -1,9 +1,9 @@
 -- The searches for a holding time, and for the lowest ceiling that is not held too long.
---   hold_up_to ts g r limit == the least w, 1 ≤ w ≤ limit, with g + Σ_{k>r} ⌈w/T_k⌉×C_k ≤ w
---   NoneHeld ts g r s == no w, 1 ≤ w < s, has g + Σ_{k>r} ⌈w/T_k⌉×C_k ≤ w: the holding time is no less than s
+--   hold_up_to ts g r limit    == the least w, 1 ≤ w ≤ limit, with g + Σ_{k>r} ⌈w/T_k⌉×C_k ≤ w
+--   NoneHeld ts g r s          == no w, 1 ≤ w < s, has g + Σ_{k>r} ⌈w/T_k⌉×C_k ≤ w: the holding time is no less than s
 --   SearchedTo ts g most r c w == the holding time is more than `most` at each ceiling from r on that is below c, and no less than w at c
---   HintIs ts h == what the hint h says is so
---   BeginIs ts g most r b == a search from r on may begin at b
+--   HintIs ts h                == what the hint h says is so
+--   BeginIs ts g most r b      == a search from r on may begin at b
 --   lowest_held ts g limit x r == the lowest ceiling, from r to n, at which the holding time is at most the limit and x, with that time
 -- Assumes nothing.
 use Rattle.std.specs.Prelude.{ℕ, suc, ◌+◌, ◌-◌, ◌≤◌, ◌<◌, ◌≡◌, false, List, leb, length}

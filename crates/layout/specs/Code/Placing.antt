@@ -1,8 +1,8 @@
 -- How the chart is made: the highest part first, each part gets the first Q free ticks of each of its periods.
---   free_in bytes y == nobody has tick y in these bytes
---   placed_at bytes from Q k i == the byte of the tick i ticks behind `from` once part k has got the first Q free ticks from `from` on
+--   free_in bytes y                  == nobody has tick y in these bytes
+--   placed_at bytes from Q k i       == the byte of the tick i ticks behind `from` once part k has got the first Q free ticks from `from` on
 --   PlacedIn from n Q k before after == `after` are the bytes `before` once part k has got the first Q free ticks of the n from `from` on
---   Placed P Q k before after == the same with the first Q free ticks of each period of P in a cycle
+--   Placed P Q k before after        == the same with the first Q free ticks of each period of P in a cycle
 -- Assumes nothing.
 use Rattle.std.specs.Prelude.{ℕ, ◌+◌, ◌*◌, ◌/◌, ◌%◌, cond, ◌&&◌, List, eqb, ltb, get_or}
 use Rattle.least.specs.Code.Stored.{Stored}

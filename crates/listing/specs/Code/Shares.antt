@@ -1,8 +1,8 @@
 -- What the writer of a listing is handed, and the pieces that it writes.
---   head_of word name == the first two fields of a line, each with the tab behind it
---   named name bound == a share of which only the name and the bound are known: all that its load line shows
---   bare name row bound == a share without its ceilings
---   ceiling_lines cs == a `ceiling` line for each of these ceilings
+--   head_of word name     == the first two fields of a line, each with the tab behind it
+--   named name bound      == a share of which only the name and the bound are known: all that its load line shows
+--   bare name row bound   == a share without its ceilings
+--   ceiling_lines cs      == a `ceiling` line for each of these ceilings
 --   FineLocks locks first == at most lock_limit locks, counted within their places, each with a ceiling from the place `first` on
 -- Assumes nothing.
 use Rattle.std.specs.Prelude.{ℕ, ◌+◌, ◌≤◌, List, [], ◌∷◌, ◌++◌, map}

@@ -17,15 +17,15 @@ loop-k-init c = λ i h. absurd (omega arith)
 pub returns-then-b-lt1 : goal.returns-then-b-lt1
 returns-then-b-lt1 c =
     let at = c.loop-k in
-    let b = get_or c.args.bounds.now at.k no_frac in
-    add-one at.k ∙ sym (first_in no_frac (λ b. not (has_time b)) c.args.n at.k c.args.bounds.now c.requires.1 c.loop-k-test.true (ap not (lt-leb 1 b.den c.if-b-lt1.true)) at.invariant)
+    let b = get_or c.args.bounds at.k no_frac in
+    add-one at.k ∙ sym (first_in no_frac (λ b. not (has_time b)) c.args.n at.k c.args.bounds c.requires.1 c.loop-k-test.true (ap not (lt-leb 1 b.den c.if-b-lt1.true)) at.invariant)
 
 pub loop-k-preserved : goal.loop-k-preserved
 loop-k-preserved c =
     let at = c.loop-k in
-    let b = get_or c.args.bounds.now at.k no_frac in
-    none_more no_frac (λ b. not (has_time b)) c.args.bounds.now at.k at.invariant (ap not (le-leb 1 b.den c.if-b-lt1.false))
+    let b = get_or c.args.bounds at.k no_frac in
+    none_more no_frac (λ b. not (has_time b)) c.args.bounds at.k at.invariant (ap not (le-leb 1 b.den c.if-b-lt1.false))
 
 pub returns : goal.returns
 returns c =
-    sym (first_in_none no_frac (λ b. not (has_time b)) c.args.n c.args.bounds.now c.requires.1 (λ i h. c.loop-k.invariant i (omega arith)))
+    sym (first_in_none no_frac (λ b. not (has_time b)) c.args.n c.args.bounds c.requires.1 (λ i h. c.loop-k.invariant i (omega arith)))

@@ -30,7 +30,7 @@ is_less-requires c =
 pub loop-k-preserved : goal.loop-k-preserved
 loop-k-preserved c =
     let at = c.loop-k in
-    let xs = c.args.bounds.now in
+    let xs = c.args.bounds in
     let ok : (i : ℕ) → i < at.k → Ok (get_or xs i no_frac) = λ i h. record { some = (c.requires.0.each i (omega arith)).some } in (
       elim c.if-is_less.branch [
         | then-is_less w ↦ rw w.j-is (leads_over no_frac xs at.k at.j ok at.invariant.0 (less_true _ _ (sym c.is_less.ensures ∙ w.if-is_less.true)))
@@ -46,4 +46,4 @@ pub returns : goal.returns
 returns c =
     let at = c.loop-k in
     let e : at.k ≡ c.args.n = omega arith in
-    add-one at.j ∙ sym (first_greatest (take c.args.n c.args.bounds.now) at.j (leads_in no_frac c.args.bounds.now c.args.n at.j c.requires.0.room (λ i h. record { some = (c.requires.0.each i h).some }) (rw e at at.invariant.0)))
+    add-one at.j ∙ sym (first_greatest (take c.args.n c.args.bounds) at.j (leads_in no_frac c.args.bounds c.args.n at.j c.requires.0.room (λ i h. record { some = (c.requires.0.each i h).some }) (rw e at at.invariant.0)))

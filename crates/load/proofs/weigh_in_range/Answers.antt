@@ -57,9 +57,7 @@ bounds_of-bounds-requires c =
     columns_fine c.args.rows (in_range_fine c.args.rows c.requires) columns.result columns.ensures
 
 pub first_late-late-requires : goal.first_late-late-requires
-first_late-late-requires c =
-    let b = (goal.at.first_late-late-requires c).After-bounds_of-bounds in
-    (c.requires.few, rw (bounds_are b) (bounds_fine (rows b) c.requires).room)
+first_late-late-requires c = ((start c).requires.few, rw (bounds_are c) (bounds_fine (rows c) (start c).requires).room)
 
 pub returns-then-late-gt0 : goal.returns-then-late-gt0
 returns-then-late-gt0 c =

@@ -1,9 +1,9 @@
 -- Rows by columns, one array for each of their numbers: what a loop reads, where the struct would be copied.
---   rows_costing periods sums n == n rows with these periods, each of which costs what `sums` has for it
---   rows_by periods sums holdings n == n rows with these periods, costs and holding times
---   own_limit          == the greatest of what a row asks for itself: its cost, Q + X, and what blocks it
---   FineColumns periods sums holdings n == their numbers are in range (`demand FineDemand`), and each row costs something, and no less than it holds
---   Attained periods sums n s most own r == r is L(t)/t, at most 1, for a time t up to `most`: L(t) is `own` and the demand of the rows from the place s on
+--   rows_costing periods sums n              == n rows with these periods, each of which costs what `sums` has for it
+--   rows_by periods sums holdings n          == n rows with these periods, costs and holding times
+--   own_limit                                == the greatest of what a row asks for itself: its cost, Q + X, and what blocks it
+--   FineColumns periods sums holdings n      == their numbers are in range (`demand FineDemand`), and each row costs something, and no less than it holds
+--   Attained periods sums n s most own r     == r is L(t)/t, at most 1, for a time t up to `most`: L(t) is `own` and the demand of the rows from the place s on
 --   LowerIs periods sums n s most own best r == r is the ratio `best`, or a smaller one that is attained
 -- Assumes nothing.
 use Rattle.std.specs.Prelude.{ℕ, ◌+◌, ◌-◌, ◌≤◌, ◌<◌, ◌≡◌, ◌⊎◌, List, map, get_or}

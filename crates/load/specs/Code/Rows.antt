@@ -1,7 +1,7 @@
 -- Rows in structs and arrays, as weighing takes them and gives their bounds.
---   FineRows rows     == at most sixteen rows, each with P and Q from 1 to the limit of numbers, and X up to it
---   ColumnsAre rows c == c holds the numbers of the rows, place by place
---   InRange rows      == rows that pass question 12
+--   FineRows rows       == at most sixteen rows, each with P and Q from 1 to the limit of numbers, and X up to it
+--   ColumnsAre rows c   == c holds the numbers of the rows, place by place
+--   InRange rows        == rows that pass question 12
 --   FineBounds bounds n == the first n are fractions of numbers within the limit
 -- Assumes nothing.
 use Rattle.std.specs.Prelude.{ℕ, ◌+◌, ◌≤◌, ◌<◌, ◌≡◌, true, List, length, get_or}

@@ -1,12 +1,12 @@
 -- The kept lists of the parts of a file in arrays.
---   part_in f k       == the part at the place k of a file that was read
---   list_in f k       == its kept list
---   FineParts f      == the numbers of the parts are in range
+--   part_in f k                         == the part at the place k of a file that was read
+--   list_in f k                         == its kept list
+--   FineParts f                         == the numbers of the parts are in range
 --   budget_in kept i, holding_in kept i == Q and X of the pair at the place i
---   OfferedAt f .. k == the arrays hold the period and the kept pairs of the part at the place k, and there are some
---   MissingIs f m    == m is the number, from 1, of the first part without a kept pair, or 0
---   utilisations f n == for how much of the processor each of the first n parts asks, in parts of slope_scale, rounded down
---   is_over f         == the tasks of all parts together ask for more than the processor
+--   OfferedAt f .. k                    == the arrays hold the period and the kept pairs of the part at the place k, and there are some
+--   MissingIs f m                       == m is the number, from 1, of the first part without a kept pair, or 0
+--   utilisations f n                    == for how much of the processor each of the first n parts asks, in parts of slope_scale, rounded down
+--   is_over f                           == the tasks of all parts together ask for more than the processor
 -- Assumes nothing.
 use Rattle.std.specs.Prelude.{ℕ, suc, ◌+◌, ◌*◌, ◌≤◌, ◌<◌, ◌≡◌, Bool, List, map, ltb, length, get_or}
 use Rattle.least.specs.Lists.{sum, count_from}

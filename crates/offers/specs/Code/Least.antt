@@ -1,6 +1,6 @@
 -- The rows of least load of a file that was read.
---   partitions_in f == the numbers of the parts that the struct `PlanFile` holds
---   no_rows r       == the refusal r, and no rows
+--   partitions_in f  == the numbers of the parts that the struct `PlanFile` holds
+--   no_rows r        == the refusal r, and no rows
 --   plan_rows_from a == these rows in the struct `PlanRows`, or the refusal
 -- Assumes nothing.
 use Rattle.std.specs.Prelude.{List, [], map, length, take}

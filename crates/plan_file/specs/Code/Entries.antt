@@ -1,10 +1,10 @@
 -- What the reader keeps of the lines above, and what a record enters, as the code has them: names are stretches of the file s.
---   names_of s ns    == the names that the struct `Names` holds
---   place_among name ns == the place of a name among names, from 0; their count where it is not among them
---   entry_of s n seen r == what the record r on line n enters: the first no of its questions, or its numbers
+--   names_of s ns                             == the names that the struct `Names` holds
+--   place_among name ns                       == the place of a name among names, from 0; their count where it is not among them
+--   entry_of s n seen r                       == what the record r on line n enters: the first no of its questions, or its numbers
 --   seen_part, seen_task, seen_lock, seen_end == what has been seen behind such a line
---   FineNames, FineSeen == counts within the places that there are
---   NumbersOf s ns codes == the array `codes` has the numbers of these names, and each is a name
+--   FineNames, FineSeen                       == counts within the places that there are
+--   NumbersOf s ns codes                      == the array `codes` has the numbers of these names, and each is a name
 -- Assumes nothing.
 use Rattle.std.specs.Prelude.{ℕ, zero, suc, ◌+◌, ◌≤◌, ◌≡◌, Bool, true, false, cond, not, ◌&&◌, List, [], ◌∷◌, map, leb, eqb, length, take, set, get_or}
 use Rattle.least.specs.Lists.{pad, every}

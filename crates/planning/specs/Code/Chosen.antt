@@ -1,6 +1,6 @@
 -- The plan of a file in its structs: what was read of it, and the rows that were chosen.
---   rows_read f      == the rows of the plan of what was read, or the refusal of the first no among questions 1 to 11
---   PlanIs s f rows == f is what was read of the file s, and rows are those of its plan
+--   rows_read f              == the rows of the plan of what was read, or the refusal of the first no among questions 1 to 11
+--   PlanIs s f rows          == f is what was read of the file s, and rows are those of its plan
 --   answer_of charted s room == the chart of the file s, if it is asked for, or the listing of its plan
 -- Assumes nothing.
 use Rattle.std.specs.Prelude.{ℕ, ◌≡◌, Bool, cond, List}

@@ -1,13 +1,13 @@
 -- The listing of a plan, from what was read of its file.
---   no_share == a share with nothing in it, for a place where there is none
---   listing_at k shares == the `load` line of the k-th share, counted from 1, then every share
+--   no_share                      == a share with nothing in it, for a place where there is none
+--   listing_at k shares           == the `load` line of the k-th share, counted from 1, then every share
 --   share_in s f rows bounds cs k == what is printed of the part at the place k of the struct `PlanFile`: with the row and the bound at this place, and with
 --                                   the ceilings that stand in cs from the place lock_limit × k on
 --   shares_in s f rows bounds cs == the same of all its parts, in file order
---   FineFile f == at most part_limit parts, in as many places, each with as many lock names as locks
---   ToPrint s f k == the file's counts are fine, k is the number of a part, and the file is not too long to measure
---   EachFine f == the numbers of each part are in range
---   AllShownAre f rows cs == cs holds the ceilings shown for each part at the X of its row
+--   FineFile f                   == at most part_limit parts, in as many places, each with as many lock names as locks
+--   ToPrint s f k                == the file's counts are fine, k is the number of a part, and the file is not too long to measure
+--   EachFine f                   == the numbers of each part are in range
+--   AllShownAre f rows cs        == cs holds the ceilings shown for each part at the X of its row
 -- Assumes nothing.
 use Rattle.std.specs.Prelude.{ℕ, ◌*◌, ◌^◌, ◌≤◌, ◌<◌, ◌≡◌, List, [], ◌++◌, map, length, get_or}
 use Rattle.least.specs.declared.Frac.{Frac}

@@ -1,10 +1,10 @@
 -- The ceilings of the locks of a part, by places from 0, as x falls: at x each is found from the one at a greater x.
 --   next_ceiling ts g limit c w x == the ceiling of a lock at x, with its holding time; c and w are those at a greater x, or w is past every limit and c is
 --                      the lock's lowest ceiling
---   FineLocks longest limits ceilings m == the numbers of m locks are in range: the greatest c and the smallest deadline of each, and a ceiling for it
+--   FineLocks longest limits ceilings m             == the numbers of m locks are in range: the greatest c and the smallest deadline of each, and a ceiling for it
 --   ceiling_at ts longest limits ceilings times x j == next_ceiling of the lock at the place j
---   held_time a         == the holding time at the ceiling a, 0 where there is none
---   RaisedIs next m r  == r holds the ceilings and times `next` of m locks, and the greatest of the times; or one of the locks has none
+--   held_time a                                     == the holding time at the ceiling a, 0 where there is none
+--   RaisedIs next m r                               == r holds the ceilings and times `next` of m locks, and the greatest of the times; or one of the locks has none
 -- Assumes nothing.
 use Rattle.std.specs.Prelude.{ℕ, ◌+◌, ◌≤◌, ◌<◌, ◌≡◌, true, false, cond, List, map, leb, get_or}
 use Rattle.least.specs.Lists.{greatest, count_from}

@@ -1,8 +1,8 @@
 -- What the reader hands on, and what it stands for.
---   part_of s r  == the part that the struct `PartRead` stands for, whose names are stretches of the file s
---   parts_in s f == the parts that the struct `PlanFile` holds
---   file_of s f  == what the struct `PlanFile` says: the parts that it holds, or the refusal
---   FineCounts r == the counts of the struct `PartRead` are within the places that there are, and count the same locks
+--   part_of s r      == the part that the struct `PartRead` stands for, whose names are stretches of the file s
+--   parts_in s f     == the parts that the struct `PlanFile` holds
+--   file_of s f      == what the struct `PlanFile` says: the parts that it holds, or the refusal
+--   FineCounts r     == the counts of the struct `PartRead` are within the places that there are, and count the same locks
 --   ReadFromIs n s f == f is what the file s says, whose first line has the number n: its parts, or the refusal of the first question among 1 to 9 with a no;
 --                  its counts are fine, and each part's name is the stretch of its `part` line
 --   ReadIs s f  == the same of a file by itself: its lines are numbered from 1

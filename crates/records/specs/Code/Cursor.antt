@@ -1,5 +1,5 @@
 -- What the cursor hands back, in terms of the lines of the file.
---   record_as s r  == the record whose fields are these stretches of the file s
+--   record_as s r == the record whose fields are these stretches of the file s
 --   NextIs s c n  == n is what stands at the cursor c
 -- Assumes nothing.
 use Rattle.std.specs.Prelude.{ℕ, suc, ◌+◌, ◌≤◌, ◌≡◌, true, false, List, ◌∷◌, length, drop}

@@ -2,7 +2,7 @@
 --   up_to from to    == the stretch from one position up to another
 --   end_of l k       == where field k of a scanned line ends: at tab k, the last one at the line's end (fields from 0)
 --   first_field at l == the field before the first tab, of a line that begins at `at`
---   field l k       == field k, from 1 on: it begins behind the tab before it
+--   field l k        == field k, from 1 on: it begins behind the tab before it
 --   word_of bs       == the word that bytes spell
 --   shape_of w l     == the record of a line with this word, by its count of tabs
 -- Assumes nothing.

@@ -1,18 +1,18 @@
 -- The search for the choice of least load. Arrays hold the pair at the place i of the part k, both from 0, at kept_limit × k + i.
---   offer_at periods budgets holdings k i == this pair as a row
---   offers_of periods budgets holdings counts n == the rows that each of n parts offers
+--   offer_at periods budgets holdings k i        == this pair as a row
+--   offers_of periods budgets holdings counts n  == the rows that each of n parts offers
 --   FineOffers periods budgets holdings counts n == 1 to part_limit parts offer 1 to kept_limit rows each, whose numbers are in range; along the rows of
 --                         a part the holding time falls, and Q + X does not
---   bound_at rows s     == the bound of the row at the place s
---   held_before rows s  == what blocks it: the greatest X of the rows before it
---   FinePlaces budgets holdings places n == each of n parts has a place below kept_limit, with numbers within the limit
+--   bound_at rows s                        == the bound of the row at the place s
+--   held_before rows s                     == what blocks it: the greatest X of the rows before it
+--   FinePlaces budgets holdings places n   == each of n parts has a place below kept_limit, with numbers within the limit
 --   ColumnsAre budgets holdings places n c == c holds the sums and the holding times of the rows at these places
---   FineBest best     == 1/0, or a fraction of at most 1 of numbers from 1 to the limit
---   BelowIs best by   == by this linear supply a load is met at a time just if its ratio there is below `best`
---   StuckIs rows best r == r is the blocking of a row whose bound is not below `best`, if there is such a row
---   HeaviestIs rows w == w is the bound and the blocking of a row that reaches the load
---   MoverIs counts holdings places n x j == j is the first of n parts that holds for x, and has a next row; or there is no such part, and j is n
---   ChoiceIs .. c     == c holds the first choice of least load, if any choice passes
+--   FineBest best                          == 1/0, or a fraction of at most 1 of numbers from 1 to the limit
+--   BelowIs best by                        == by this linear supply a load is met at a time just if its ratio there is below `best`
+--   StuckIs rows best r                    == r is the blocking of a row whose bound is not below `best`, if there is such a row
+--   HeaviestIs rows w                      == w is the bound and the blocking of a row that reaches the load
+--   MoverIs counts holdings places n x j   == j is the first of n parts that holds for x, and has a next row; or there is no such part, and j is n
+--   ChoiceIs .. c                          == c holds the first choice of least load, if any choice passes
 -- Assumes nothing.
 use Rattle.std.specs.Prelude.{ℕ, suc, ◌+◌, ◌*◌, ◌≤◌, ◌<◌, ◌≡◌, true, false, ◌⊎◌, List, map, reverse, length, get_or, take}
 use Rattle.least.specs.declared.Frac.{Frac}

@@ -1,8 +1,8 @@
 -- Which locks are shared, by the numbers of their names in one array: those of the part at the place k from lock_limit × k on, 0 in the places that are left.
 --   CodesPut s ns k before after == `after` is `before` with the numbers of the names ns, stretches of the file s, at the places of the part at k
---   names_it codes code k    == the part at the place k names the lock with this number
---   code_shared codes n code == at least two of the first n parts name it; 0 is the number of no lock
---   marks_at codes n k       == so for each lock of the part at the place k
+--   names_it codes code k        == the part at the place k names the lock with this number
+--   code_shared codes n code     == at least two of the first n parts name it; 0 is the number of no lock
+--   marks_at codes n k           == so for each lock of the part at the place k
 -- Assumes nothing.
 use Rattle.std.specs.Prelude.{ℕ, ◌+◌, ◌*◌, Bool, not, ◌&&◌, List, map, leb, eqb, length, get_or}
 use Rattle.least.specs.Lists.{count_from, those}

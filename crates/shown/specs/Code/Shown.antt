@@ -1,8 +1,8 @@
 -- The ceilings shown, in code: those of all parts in one array, of which the part at the place k has those from lock_limit × k on.
---   ceiling_or0 c        == the ceiling that was found, 0 where there is none
+--   ceiling_or0 c                        == the ceiling that was found, 0 where there is none
 --   ceiling_within ts g limit x r shared == the ceiling of a lock at x, from r on, with its time; a private lock keeps r, and no time counts
---   ShownAre v x k cs   == cs holds, for each lock of the partition v at the place k, the ceiling shown for it at x
---   Shown v x k before after == `after` is `before` with these
+--   ShownAre v x k cs                    == cs holds, for each lock of the partition v at the place k, the ceiling shown for it at x
+--   Shown v x k before after             == `after` is `before` with these
 -- Assumes nothing.
 use Rattle.std.specs.Prelude.{ℕ, suc, ◌+◌, ◌*◌, ◌<◌, ◌≡◌, Bool, cond, List, get_or}
 use Rattle.least.specs.Code.Stored.{Stored}

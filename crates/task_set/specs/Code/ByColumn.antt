@@ -1,7 +1,7 @@
 -- The tasks of a part by columns, one array for each of their numbers: what a loop reads, where the struct would be copied.
---   times_of separations costs n == n tasks with these separations and costs, without deadlines and locks
+--   times_of separations costs n  == n tasks with these separations and costs, without deadlines and locks
 --   FineTimes separations costs n == there are at most 16 of them, and T and C of each are from 1 to the limit of numbers
---   ColumnsAre p c     == c holds the numbers of the part's tasks, place by place
+--   ColumnsAre p c                == c holds the numbers of the part's tasks, place by place
 -- Assumes nothing.
 use Rattle.std.specs.Prelude.{ℕ, ◌≤◌, ◌<◌, ◌≡◌, List, [], map, get_or}
 use Rattle.least.specs.Lists.{count_from}

@@ -1,14 +1,14 @@
 -- The locks of a part by places, from 0: arrays with their numbers, and the blocking of a task from such arrays.
---   lock_of l ts        == of lock l: its lowest ceiling, the greatest c and the smallest deadline of its users
---   earlier a b        == the smaller of two deadlines, where 0 stands for none
+--   lock_of l ts                     == of lock l: its lowest ceiling, the greatest c and the smallest deadline of its users
+--   earlier a b                      == the smaller of two deadlines, where 0 stands for none
 --   with_user lock number c deadline == the lock, once the task with this number is known to hold it for c; c = 0 where it does not use it
---   LocksAre p locks   == the first places hold the numbers of the part's locks
---   LongestBelow p table == at 8 i + j, i < 16, j < 8, the longest use of lock j + 1 by a task below the place i
---   blocked_for ceiling c i == c, where a lock with this ceiling blocks the task at the place i, else 0
---   blocking_by below ceilings m i == the blocking of the task at the place i under these ceilings of m locks, from the table `below`
---   setting_from ceilings first == the setting whose ceilings stand from the place `first` on: lock l, from 1 on, has the place first + (l - 1)
---   setting_of ceilings == the same from the place 0 on
---   lower_than i ts     == the tasks below the place i, nearest first
+--   LocksAre p locks                 == the first places hold the numbers of the part's locks
+--   LongestBelow p table             == at 8 i + j, i < 16, j < 8, the longest use of lock j + 1 by a task below the place i
+--   blocked_for ceiling c i          == c, where a lock with this ceiling blocks the task at the place i, else 0
+--   blocking_by below ceilings m i   == the blocking of the task at the place i under these ceilings of m locks, from the table `below`
+--   setting_from ceilings first      == the setting whose ceilings stand from the place `first` on: lock l, from 1 on, has the place first + (l - 1)
+--   setting_of ceilings              == the same from the place 0 on
+--   lower_than i ts                  == the tasks below the place i, nearest first
 -- Assumes nothing.
 use Rattle.std.specs.Prelude.{ℕ, suc, ◌+◌, ◌-◌, ◌*◌, min, max, ◌<◌, ◌≡◌, cond, List, map, reverse, leb, take, get_or}
 use Rattle.least.specs.Lists.{greatest, count_from}

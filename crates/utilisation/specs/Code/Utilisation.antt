@@ -1,7 +1,7 @@
 -- The utilisation of tasks, Σ C/T, rounded down: they ask for at least this share of the processor. It is counted in parts of slope_scale.
---   share C T       == C/T in such parts, rounded down
---   share_in ts      == the sum over these tasks
---   ShareIs part r  == r is that of the part's tasks, and at most sixteen times the processor
+--   share C T      == C/T in such parts, rounded down
+--   share_in ts    == the sum over these tasks
+--   ShareIs part r == r is that of the part's tasks, and at most sixteen times the processor
 -- Assumes nothing.
 use Rattle.std.specs.Prelude.{ℕ, ◌*◌, ◌/◌, ◌≤◌, ◌≡◌, List, map}
 use Rattle.least.specs.Lists.{sum}

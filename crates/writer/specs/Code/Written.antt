@@ -1,5 +1,5 @@
 -- Bytes that are written into a lent buffer.
---   written at piece buffer == the buffer with the piece in the place of its bytes from `at` on
+--   written at piece buffer            == the buffer with the piece in the place of its bytes from `at` on
 --   Written at piece before after next == `after` is the buffer `before` with the piece at `at`, and `next` is the place behind the piece
 -- Assumes nothing.
 use Rattle.std.specs.Prelude.{ℕ, ◌+◌, ◌≡◌, List, ◌++◌, length, take, drop}
