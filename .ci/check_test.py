@@ -173,6 +173,8 @@ LISTS = {
     'answers': 'least', 'records': 'scan', 'planner': 'least refusal load answers inquiries hand_set planning', 'examples': 'planner', 'plan': 'least answers planner', 'console': 'libc',
 }
 VERDICT = 'logic=proved functions=2 sum=0 native=nat,char,string logic-built=trusted libraries-built=trusted statements=trusted'
+# A static library's names the processor that it is built for.
+BUILT = VERDICT.replace('sum', 'target=x86_64-unknown-linux-gnu cpu=x86-64-v2 sum')
 
 
 def edit(breaks):
@@ -276,7 +278,7 @@ def right_tree():
     files[NAMED] += '\nabbrev pub every : Type 0\nevery = few load_of' + ''.join(f' name{at}' for at in range(len(named))) + '\n'
     names = sorted({path.split('/')[1] for path in files if path.startswith('crates/')})
     files['crates.txt'] = '# all\n' + ''.join(f'{name}{" staticlib" if name == "planner_c" else ""}: {LISTS.get(name, "")}\n' for name in names)
-    files[LOG] = ''.join(kept(name) if name == 'scan' else block(name, VERDICT if name != 'plan' else VERDICT.replace('sum', 'axioms=9 sum')) for name in names)
+    files[LOG] = ''.join(kept(name) if name == 'scan' else block(name, {'plan': VERDICT.replace('sum', 'axioms=9 sum'), 'planner_c': BUILT}.get(name, VERDICT)) for name in names)
     files[LOG] += ''.join(f'rt: must-fail {name}.edit: refused, as it must be: {error}\n' for name, error in said.items())
     files[LOG] += f'rt: ok; handles allowed: none; must-fail edits: {len(said)} refused; done in this run: 9 of the 9 proofs\n9 passed, 0 failed\n'
     return files
@@ -549,6 +551,9 @@ SLIPS = [
     *((check.check_verdicts, f'planning: the verdict names an assumption, {word}', LOG, block('planning'), block('planning', VERDICT.replace('sum', f'{word}=1 sum'))) for word in [
         'axioms', 'foreign', 'may-abort', 'may-wait', 'hides', 'bugs', 'incremental', 'cache',
     ]),
+    (check.check_verdicts, 'planning: the verdict names an assumption, cpu', LOG, block('planning'), block('planning', BUILT)),
+    (check.check_verdicts, 'planner_c: the verdict names an assumption, target', 'crates.txt', 'planner_c staticlib:', 'planner_c:'),
+    (check.check_verdicts, 'planner_c: the verdict names an assumption, axioms', LOG, BUILT, BUILT.replace('sum', 'axioms=1 sum')),
     (check.check_verdicts, 'target/ci.log: it must say once that no handle is allowed', LOG, 'handles allowed: none', 'handles allowed: Wait'),
     (check.check_verdicts, 'target/ci.log: it must say once that no handle is allowed', LOG, 'rt: ok; ', 'rt: '),
     (check.check_tests, 'include/planner.h: planner_weigh is not declared', interface.HEADER, 'planner_weigh(', 'planner_weight('),

@@ -3,7 +3,7 @@
 --   holding_of ts l r   == the least such w ≥ 1, if it exists and is at most the smallest deadline among the users of lock l
 --   within x a          == a holding time that was found is at most x
 --   highest_ceiling v l == n; a private lock keeps its lowest ceiling
---   inRange v σ         == σ is a setting: each ceiling is from the lock's lowest to its highest
+--   in_range v σ        == σ is a setting: each ceiling is from the lock's lowest to its highest
 --   permitted v σ       == each shared lock's w exists and is at most the smallest deadline among its users; a private lock asks no permission
 --   holding_time_of v σ == X: the greatest w of a shared lock, or 0 without shared locks; a private lock has no holding time
 -- The search for w ends at that deadline; the law `holding_paper` says what it finds without it.

@@ -63,7 +63,7 @@ fn write_share_line(out: &mut [u8], at: usize, name: &[u8], row: Row, bound: Fra
 // `ceiling` LOCK NUMBER.
 fn write_ceiling(out: &mut [u8], at: usize, lock: &[u8], number: u64) -> usize
     requires { at + length (ceiling_line (record { lock = lock.now; number = number })) ≤ length out.old }
-    ensures { Written at (ceiling_line (record { lock = lock.entry.now; number = number })) out.old out.new result }
+    ensures { Written at (ceiling_line (record { lock = lock.now; number = number })) out.old out.new result }
 {
     let next = write_head(out, at, b"ceiling", lock);
     writer::write_number_field(out, next, number, NEWLINE)
@@ -152,7 +152,7 @@ fn share_line_length(name: &[u8], row: Row, bound: Frac) -> usize
 
 fn ceiling_length(lock: &[u8], number: u64) -> usize
     requires { length lock.now ≤ 2 ^ 32 }
-    ensures { (result ≡ length (ceiling_line (record { lock = lock.entry.now; number = number }))) × (result ≤ 2 ^ 33) }
+    ensures { (result ≡ length (ceiling_line (record { lock = lock.now; number = number }))) × (result ≤ 2 ^ 33) }
 {
     10 + lock.len() + writer::digit_count(number)
 }

@@ -1,7 +1,7 @@
 -- A stretch of a lent slice, handed back as that part of the caller's own bytes.
 --   bytes_of s p    == the bytes of a stretch of the file s
 --   StretchOf s p r == r is the stretch p of the slice s itself, and not equal bytes elsewhere
--- A reference has a block of memory and an offset in it (`ptr`), and what is there (`now`).
+-- A reference has a block of memory and an offset in it (`ref_ptr`), and what is there (`now`).
 -- Assumes nothing.
 use Rattle.std.specs.Prelude.{ℕ, ◌+◌, min, ◌≡◌, List, length, take, drop}
 use Rattle.std.specs.Borrow.{Bor}
