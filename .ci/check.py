@@ -268,7 +268,7 @@ def functions(text):
 
 def first_error(crate, said):
     """Of what rt says of a refused edit: the place in the crate, the law or goal, what is said. What is not proved at a place of the code counts as in the folder of the function there."""
-    if goal := re.match(r'note: (\S+?):(\d+):\d+: (it is not proved that [^`]*\(`([^`]+)`\).*)', said):
+    if goal := re.match(r'note: (\S+?):(\d+):\d+: (it is not proved that (?:[^`]|`[^`]*`)*?\(`([^`]+)`\).*)', said):
         path = crate / goal[1]
         above = [fn for number, fn in functions(path.read_text()) if number <= int(goal[2])] if path.exists() else []
         return folder(above[-1]) if above else goal[1], goal[4], goal[3]
@@ -327,17 +327,17 @@ def check_shut_outs(top):
 # ---- one pass over a line
 
 def check_one_pass(top):
-    """The search of a line for forbidden bytes and tabs is one pass (M102b), which no contract can say: scan has one loop, reads the file at one place of it and goes on by one byte, and the cursor
-    has a line scanned once."""
+    """The search of a line for forbidden bytes and tabs is one pass (M102b), which no contract can say: scan has one loop, over the places of the file from `at` on, and reads the file at one place of
+    it, and the cursor has a line scanned once."""
     scan, cursor = (source(top / 'crates' / name / 'src' / 'lib.rt') for name in ('scan', 'records'))
     for what, form, text in (
         ('scan: a loop', r'\b(?:while|loop|for)\b', scan), ('scan: a place where the file is read', r'\bs\b(?!:|\.len\(\)|\.now\b)', scan), ('records: a call of scan::line_at', r'\bline_at\(', cursor),
     ):
         if (found := len(re.findall(form, text))) != 1:
             yield f'{what} stands {found} times, and must stand once'
-    for change in re.findall(r'\bi\s*(?:[-+*/%]?=(?!=)[^;]*);', scan):
-        if not re.fullmatch(r'i (?:= at|\+= 1);', change):
-            yield f'scan: the place in the line moves by `{change}`'
+    for over in re.findall(r'\b(?:while|loop|for)\b[^{]*', scan):
+        if over.strip() != 'for i in at..s.len()':
+            yield f'scan: a loop `{over.strip()}`, and not over the places from `at` on'
 
 
 # ---- each limit once

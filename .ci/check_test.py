@@ -217,7 +217,7 @@ def right_tree():
         'README.md': 'A file:\n\npart\tcard\t20\nend\n\nits plan:\n\nload\tcard\n\n' + ''.join(f'| {number} | 0 | no {number} | write it |\n' for number in interface.NUMBERS),
         DEMAND_1: DEMAND,
         SCAN: SCANNED,
-        SCAN_CODE: 'let mut i = at;\nwhile i < s.len() {\n    let b = s[i];\n    if b == 10 {\n        return Scanned { good: true, end: i };\n    }\n    i += 1;\n}\n',
+        SCAN_CODE: 'for i in at..s.len() {\n    let b = s[i];\n    if b == 10 {\n        return Scanned { good: true, end: i };\n    }\n}\n',
         CURSOR: 'let l = scan::line_at(s, at);\n',
         LOAD: LOAD_PAGE,
         LOAD_CODE: 'ghost use Rattle.load.specs.Load.{◌⊑◌};\n',
@@ -481,11 +481,11 @@ SLIPS = [
     (check.check_poster, 'the plan of crates/cases/data/m103-poster does not', 'crates/cases/stdout', 'load', 'share'),
     (check.check_poster, 'the plan of crates/cases/data/m103-poster does not', 'crates/cases/stdout', '== m103-poster', '== m103-posters'),
     (check.check_one_pass, 'scan: a loop stands 2 times', SCAN_CODE, '', 'while i < at {\n}\n'),
-    (check.check_one_pass, 'scan: a loop stands 0 times', SCAN_CODE, 'while', '// while'),
-    (check.check_one_pass, 'scan: a place where the file is read stands 2 times', SCAN_CODE, 'i += 1;', 'i += 1;\n    let c = s[at];'),
+    (check.check_one_pass, 'scan: a loop stands 0 times', SCAN_CODE, 'for', '// for'),
+    (check.check_one_pass, 'scan: a place where the file is read stands 2 times', SCAN_CODE, 's[i];', 's[i];\n    let c = s[at];'),
     (check.check_one_pass, 'scan: a place where the file is read stands 2 times', SCAN_CODE, '', 'let t = fields::tabs_of(s, at);\n'),
-    (check.check_one_pass, 'scan: the place in the line moves by `i = at - 1;`', SCAN_CODE, 'i += 1;', 'i = at - 1;'),
-    (check.check_one_pass, 'scan: the place in the line moves by `i -= 1;`', SCAN_CODE, 'i += 1;', 'i -= 1;'),
+    (check.check_one_pass, 'scan: a loop `for i in 0..s.len()`, and not over the places', SCAN_CODE, 'at..s', '0..s'),
+    (check.check_one_pass, 'scan: a loop `while i < s.len()`, and not over the places', SCAN_CODE, 'for i in at..s.len()', 'while i < s.len()'),
     (check.check_one_pass, 'records: a call of scan::line_at stands 2 times', CURSOR, '', 'let m = scan::line_at(s, at);\n'),
     (check.check_one_limit, 'the limit of numbers stands 2 times in the definitions', 'crates/least/specs/Round.antt', '', 'most : ℕ\nmost = 1000000\n'),
     (check.check_one_limit, 'the limit of numbers stands 0 times in the definitions', LIMIT, '1000000', '65535'),
@@ -743,6 +743,13 @@ class Program(unittest.TestCase):
         for names, printed in [('', ''), ('short\n', ''), ('', '== short\nend\n'), ('short\nlong\n', '== short\nend\n'), ('short\n', '== short\nend \n')]:
             with self.subTest(names=names, printed=printed):
                 self.assertEqual(self.program('cat', names, printed), 1)
+
+
+class FirstError(unittest.TestCase):
+    def test_a_goal_at_a_line(self):
+        for what, goal in [('what the function ensures holds when it returns (`returns`)', 'returns'), ('what `half` requires holds at this call (`half-requires`); `search` gave up', 'half-requires')]:
+            with self.subTest(goal=goal):
+                self.assertEqual(check.first_error(Path('none'), f'note: src/lib.rt:25:9: it is not proved that {what}')[1], goal)
 
 
 class Stack(unittest.TestCase):

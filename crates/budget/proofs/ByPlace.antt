@@ -1,6 +1,7 @@
 -- The local test by places: a budget passes just if it passes for the task at each place, with its blocking and with the tasks above it.
 --   task_passes_at v σ Q k == the task at the place k passes with Q under the setting σ
 -- Assumes nothing.
+use Rattle.std.specs.Prelude.{Some}
 use Prim.Native.Nat.{ℕ, suc, ◌+◌, ◌≤◌, ◌<◌}
 use mathlib.Core.Path.{◌≡◌, ap, fun_ext}
 use mathlib.Core.Bool.{Bool, true}
@@ -8,7 +9,6 @@ use mathlib.Core.List.{List, reverse}
 use mathlib.Core.Logic.{◌↔◌}
 use lib.Dec.{leb}
 use lib.ListN.{length, take, drop, get_or}
-use Rattle.least.specs.declared.Least.TheVariants.{At}
 use Rattle.least.specs.Search.{any_up_to}
 use Rattle.least.proofs.Along.{along_places}
 use Rattle.supply.specs.Supply.{supply_of}
@@ -35,7 +35,7 @@ module _ (v : Partition) (σ τ : Setting) (less : (k : ℕ) → k < length v.ta
   passes_less_blocking Q o u t =
       (passes_places v τ Q).1 (λ k h. task_less_blocking v.period Q _ _ (get_or v.tasks k blank_task) (drop (suc k) v.tasks) o u (less k h) ((passes_places v σ Q).0 t k h))
 
-  pub budget_less_blocking : (Q R : ℕ) → least_budget v σ ≡ At Q → least_budget v τ ≡ At R → R ≤ Q
+  pub budget_less_blocking : (Q R : ℕ) → least_budget v σ ≡ Some Q → least_budget v τ ≡ Some R → R ≤ Q
   budget_less_blocking Q R e f =
       let q = (budget_iff v σ Q).0 e in
       ((budget_iff v τ R).0 f).0.first Q q.0.positive (passes_less_blocking Q q.0.positive q.1 q.0.passes)

@@ -1,7 +1,8 @@
 -- The local test of one task by iteration: its need is met at t just if the inverse of the supply takes the need at t to at most t.
 --   ticks P Q b task higher t == the ticks in which the need at t is supplied
---   line_of P Q               == a linear supply that is never below the supply of (P,Q)
+--   line_of P Q fine          == a linear supply that is never below the supply of (P,Q)
 -- Assumes nothing.
+use Rattle.std.specs.Prelude.{Some, None}
 use Prim.Native.Nat.{ℕ, ◌+◌, ◌-◌, ◌*◌, ◌≤◌, ◌<◌}
 use native.Mathlib.Nat.{le_refl, add-le-add, mul-le-mul_left}
 use native.Mathlib.Omega.{arith}
@@ -10,18 +11,17 @@ use mathlib.Core.Bool.{Bool, true, false}
 use mathlib.Core.List.{List}
 use lib.ListN.{drop}
 use borrow.Author.Tests.{lt-leb, leb-false}
-use Rattle.least.specs.declared.Least.TheVariants.{At, Nothing}
 use Rattle.least.specs.Search.{least_from, least_up_to}
-use Rattle.least.proofs.Round.{product}
 use Rattle.least.proofs.Search.{same_tests, least_iff, none_iff, any_true, any_false}
 use Rattle.least.proofs.Iterate.{Mono, settles, Unsolved, step_unsolved, past_limit, at_rest}
-use Rattle.refusal.specs.Limits.{number_limit}
 use Rattle.supply.specs.Supply.{supply_of}
 use Rattle.supply.specs.Code.Supply.{ReachIs}
 use Rattle.supply.proofs.SupplyLaws.{reach, reach_iff, reach_mono, reach_over, reach_line, supply_mono-Q}
+use Rattle.demand.specs.declared.Workload.{Workload}
 use Rattle.demand.specs.Code.Demand.{demand_from}
-use Rattle.envelope.specs.declared.LinearSupply.{LinearSupply}
-use Rattle.envelope.specs.Code.Envelope.{FineSupply, NoEarlier}
+use Rattle.envelope.specs.declared.supply.LinearSupply.{LinearSupply}
+use Rattle.envelope.specs.Code.Supply.{FineSupply}
+use Rattle.envelope.specs.Code.Envelope.{NoEarlier}
 use Rattle.task_set.specs.declared.Task.{Task}
 use Rattle.task_set.specs.Blocking.{need_of}
 use Rattle.task_set.specs.Code.ByColumn.{times_of}
@@ -47,16 +47,16 @@ none_met_less P Q R b task higher s o l u none t p h =
 
 module _ (P Q b : ℕ) (task : Task) (higher : List Task) where
   -- a passing time tells whether the task passes
-  pub time_passes : (t : ℕ) → passing_time P Q b task higher ≡ At t → task_passes P Q b task higher ≡ true
+  pub time_passes : (t : ℕ) → passing_time P Q b task higher ≡ Some t → task_passes P Q b task higher ≡ true
   unfolding passing_time task_passes
   time_passes t e = let l = (least_iff (is_met P Q b task higher) task.deadline t).0 e in any_true _ task.deadline 1 t l.0.positive (omega (arith, l.1)) l.0.passes
 
-  pub no_time_fails : passing_time P Q b task higher ≡ Nothing → task_passes P Q b task higher ≡ false
+  pub no_time_fails : passing_time P Q b task higher ≡ None → task_passes P Q b task higher ≡ false
   unfolding passing_time task_passes
   no_time_fails e = any_false _ task.deadline 1 (λ v p h. (none_iff (is_met P Q b task higher) task.deadline).0 e v p (omega arith))
 
   -- nothing is met before the passing time
-  pub time_first : (t : ℕ) → passing_time P Q b task higher ≡ At t → NoneMet P Q b task higher t
+  pub time_first : (t : ℕ) → passing_time P Q b task higher ≡ Some t → NoneMet P Q b task higher t
   unfolding passing_time
   time_first t e v p h = go (is_met P Q b task higher v) refl
     where
@@ -88,27 +88,24 @@ module _ (P Q b : ℕ) (task : Task) (higher : List Task) where
     start_unmet s none v p h = leb-false (ticks P Q b task higher v) v (sym (met_settles v) ∙ none v p h)
 
     -- the ways out of the search: past the deadline, a need past the deadline, and a need that is met
-    pub time_past : (t : ℕ) → Unsolved (ticks P Q b task higher) t → task.deadline < t → passing_time P Q b task higher ≡ Nothing
+    pub time_past : (t : ℕ) → Unsolved (ticks P Q b task higher) t → task.deadline < t → passing_time P Q b task higher ≡ None
     time_past t uns l = time_settles ∙ past_limit _ t task.deadline uns l
 
-    pub time_over : (t : ℕ) → Unsolved (ticks P Q b task higher) t → task.deadline < need_of b task higher t → passing_time P Q b task higher ≡ Nothing
+    pub time_over : (t : ℕ) → Unsolved (ticks P Q b task higher) t → task.deadline < need_of b task higher t → passing_time P Q b task higher ≡ None
     time_over t uns l =
         time_past (need_of b task higher t) (step_unsolved _ t (need_of b task higher t) ticks_mono uns (reach_over P Q (need_of b task higher t))) l
 
-    pub time_met : (t : ℕ) → Unsolved (ticks P Q b task higher) t → 1 ≤ t → t ≤ task.deadline → ticks P Q b task higher t ≤ t → passing_time P Q b task higher ≡ At t
+    pub time_met : (t : ℕ) → Unsolved (ticks P Q b task higher) t → 1 ≤ t → t ≤ task.deadline → ticks P Q b task higher t ≤ t → passing_time P Q b task higher ≡ Some t
     time_met t uns s l m = time_settles ∙ at_rest _ t task.deadline uns s l m
 
 -- a line above the supply
-abbrev pub line_of : ℕ → ℕ → LinearSupply
-line_of P Q = record { times = P; wait = Q * (P - Q); rate = Q }
-
-pub line_fine : (P Q : ℕ) → P ≤ number_limit → 1 ≤ Q → Q ≤ P → FineSupply (line_of P Q)
-line_fine P Q l o u = record { some = o; slow = u; times_most = l; wait_most = product number_limit number_limit (omega arith) (omega arith) }
+abbrev pub line_of : (P Q : ℕ) → FineSupply P (Q * (P - Q)) Q → LinearSupply
+line_of P Q fine = record { times = P; wait = Q * (P - Q); rate = Q; fine = fine }
 
 -- no time from t and x on at which the need is met is before y
-pub line_jump : (T C : List ℕ) (n s P Q b : ℕ) (task : Task) (t x y : ℕ) → 1 ≤ Q → Q ≤ P → NoEarlier T C n s (task.cost + b) (line_of P Q) t x y
-    → (v : ℕ) → t ≤ v → x ≤ v → ticks P Q b task (drop s (times_of T C n)) v ≤ v → y ≤ v
+pub line_jump : (tasks : Workload) (s P Q b : ℕ) (task : Task) (t x y : ℕ) {fine : FineSupply P (Q * (P - Q)) Q} → 1 ≤ Q → Q ≤ P → NoEarlier tasks.periods tasks.costs tasks.count s (task.cost + b) (line_of P Q fine) t x y
+    → (v : ℕ) → t ≤ v → x ≤ v → ticks P Q b task (drop s (times_of tasks)) v ≤ v → y ≤ v
 unfolding need_of
-line_jump T C n s P Q b task t x y o u far v l k m =
-    let need : need_of b task (drop s (times_of T C n)) v ≡ task.cost + b + demand_from T C n s v = omega (arith, times_demand T C n s v) in
-    far.none_before v l k (omega (arith, reach_line P Q (need_of b task (drop s (times_of T C n)) v) o u, mul-le-mul_left Q m, ap (λ (z : ℕ). P * z) need))
+line_jump tasks s P Q b task t x y o u far v l k m =
+    let need : need_of b task (drop s (times_of tasks)) v ≡ task.cost + b + demand_from tasks.periods tasks.costs tasks.count s v = omega (arith, times_demand tasks s v) in
+    far.none_before v l k (omega (arith, reach_line P Q (need_of b task (drop s (times_of tasks)) v) o u, mul-le-mul_left Q m, ap (λ (z : ℕ). P * z) need))

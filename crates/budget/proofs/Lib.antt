@@ -5,3 +5,4 @@ pub mod Enough
 pub mod Narrow
 pub mod ByPlace
 pub mod Below
+pub mod Asked

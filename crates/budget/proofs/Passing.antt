@@ -1,6 +1,7 @@
 -- Laws of the local test: the paper's words, and that a greater budget passes where a smaller one does.
 --   Met P Q blocking task higher == some t, 1 ≤ t ≤ D_i, has C_i + Σ_{k>i} ⌈t/T_k⌉×C_k + blocking ≤ supply(t)
 -- Assumes nothing.
+use Rattle.std.specs.Prelude.{Some}
 use Prim.Native.Nat.{ℕ, ◌+◌, ◌≤◌, ◌<◌}
 use native.Mathlib.Nat.{le_refl}
 use native.Mathlib.Omega.{arith}
@@ -9,7 +10,6 @@ use mathlib.Core.Bool.{true, false}
 use mathlib.Core.List.{List, ◌∷◌, ◌++◌, reverse}
 use mathlib.Core.Logic.{◌↔◌}
 use borrow.Author.Tests.{le-leb, leb-true}
-use Rattle.least.specs.declared.Least.TheVariants.{At}
 use Rattle.least.specs.Code.Search.{IsLeast}
 use Rattle.least.proofs.Search.{least_iff, any_iff}
 use Rattle.least.proofs.Bisect.{least_after}
@@ -69,11 +69,11 @@ module _ (v : Partition) (σ : Setting) where
   pub passes_mono_Q : (Q R : ℕ) → 1 ≤ Q → Q ≤ R → R ≤ v.period → passes v σ Q ≡ true → passes v σ R ≡ true
   passes_mono_Q Q R o l u q = passes_more v σ σ Q R o l u (λ k a b. le_refl (σ k)) q
 
-  pub budget_iff : (Q : ℕ) → (least_budget v σ ≡ At Q) ↔ (IsLeast (passes v σ) Q × (Q ≤ v.period))
+  pub budget_iff : (Q : ℕ) → (least_budget v σ ≡ Some Q) ↔ (IsLeast (passes v σ) Q × (Q ≤ v.period))
   unfolding least_budget
   budget_iff Q = least_iff (passes v σ) v.period Q
 
   -- two values settle it
-  pub budget_after : (Q : ℕ) → Q < v.period → passes v σ Q ≡ false → passes v σ (Q + 1) ≡ true → least_budget v σ ≡ At (Q + 1)
+  pub budget_after : (Q : ℕ) → Q < v.period → passes v σ Q ≡ false → passes v σ (Q + 1) ≡ true → least_budget v σ ≡ Some (Q + 1)
   unfolding least_budget
   budget_after Q l f t = least_after (passes v σ) v.period Q passes_mono_Q l f t

@@ -4,8 +4,7 @@
 --   passes v σ Q                         == a budget Q passes: every task i does
 --   least_budget v σ                     == the least Q, 1 ≤ Q ≤ P, that passes, if there is one
 -- Assumes nothing.
-use Rattle.std.specs.Prelude.{ℕ, Bool, List, leb}
-use Rattle.least.specs.declared.Least.{Least}
+use Rattle.std.specs.Prelude.{ℕ, Bool, List, leb, Option}
 use Rattle.least.specs.Search.{least_up_to, any_up_to}
 use Rattle.least.specs.Lists.{every_along}
 use Rattle.supply.specs.Supply.{supply_of}
@@ -22,5 +21,5 @@ task_passes P Q blocking task higher = any_up_to (is_met P Q blocking task highe
 unfoldable pub passes : Partition → Setting → ℕ → Bool
 passes v σ Q = every_along (λ lower task higher. task_passes v.period Q (blocking_of v.locks σ lower) task higher) v.tasks
 
-unfoldable pub least_budget : Partition → Setting → Least
+unfoldable pub least_budget : Partition → Setting → Option ℕ
 least_budget v σ = least_up_to (passes v σ) v.period

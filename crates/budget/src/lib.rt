@@ -1,43 +1,40 @@
-// The local test of one task, and its least budget. The tasks are lent by columns (crate task_set).
+// The local test of one task, and its least budget. The tasks are lent by columns (crate demand).
 #![tactic(auto)]
 
 ghost use Rattle.std.specs.Prelude.{◌≡◌, suc, ◌≤◌, ◌<◌};
 ghost use Rattle.refusal.specs.Limits.{number_limit};
-ghost use Rattle.task_set.specs.Tasks.{higher};
 ghost use Rattle.task_set.specs.Blocking.{need_of};
-ghost use Rattle.task_set.specs.Code.ByColumn.{times_of, FineTimes};
-ghost use Rattle.budget.specs.Code.Passing.{due_task, passing_time, NoneMet, EnoughIs, budget_from, PassedIs};
+ghost use Rattle.task_set.specs.Code.ByColumn.{FineTimes};
+ghost use Rattle.budget.specs.Code.Passing.{due_task, above, passing_time, FineSearch, enough_from, budget_from, PassedIs};
 
+use demand::Workload;
 use envelope::LinearSupply;
-use least::Least;
 
 // The least time up to its deadline at which the task at the place i, blocked for at most b ticks, has got what it needs with the budget q. There is
 // none before `start`.
 fn passing_time(
-    separations: &[u64; 16],
-    costs: &[u64; 16],
-    n: usize,
+    tasks: &Workload,
     i: usize,
     deadline: u64,
     period: u64,
     b: u64,
     q: u64,
     start: u64,
-) -> Least
-    requires { FineTimes separations.now costs.now n × (i < n) × (deadline ≤ number_limit) × (period ≤ number_limit) × (b ≤ number_limit) × (1 ≤ q) × (q ≤ period) × (1 ≤ start) × NoneMet period q b (due_task costs.now i deadline) (higher (suc i) (times_of separations.now costs.now n)) start }
-    ensures { result ≡ passing_time period q b (due_task costs.now i deadline) (higher (suc i) (times_of separations.now costs.now n)) }
+) -> Option<u64>
+    requires { FineSearch tasks.now i deadline period b q start }
+    ensures { result ≡ passing_time period q b (due_task tasks.now.costs i deadline) (above tasks.now i) }
 {
-    let own = costs[i] + b;
+    let own = tasks.costs[i] + b;
     let mut t = start;
     let mut left: u64 = 8;
     while t <= deadline {
-        let need = own + demand::demand_from(separations, costs, n, i + 1, t);
+        let need = own + tasks.demand_from(i + 1, t);
         if deadline < need {
-            return Least::Nothing;
+            return None;
         }
         let next = supply::reach_at(period, q, need);
         if next <= t {
-            return Least::At(t);
+            return Some(t);
         }
         if 0 < left {
             left -= 1;
@@ -45,41 +42,37 @@ fn passing_time(
             continue;
         }
         // A search that a few steps do not settle jumps, by a line above the supply, and makes some more before it jumps again, as in `envelope::first_met`.
-        let wait = q * (period - q);
         let line = LinearSupply {
             times: period,
-            wait,
+            wait: q * (period - q),
             rate: q,
         };
-        t = envelope::no_earlier(separations, costs, n, i + 1, own, line, t, next, deadline);
+        t = envelope::no_earlier(tasks, i + 1, own, line, t, next, deadline);
         left = t / 16 % 8;
     }
-    Least::Nothing
+    None
 }
 
-// The least budget from `from` up to `to`, `to` left out, with which the task at the place i, blocked for at most b ticks, has got what it needs at t; `to`
-// where there is none.
+// The least budget from `from` up to `to`, `to` left out, with which the task at the place i, blocked for at most b ticks, has got what it needs at t.
 fn enough_at(
-    separations: &[u64; 16],
-    costs: &[u64; 16],
-    n: usize,
+    tasks: &Workload,
     i: usize,
     t: u64,
     period: u64,
     b: u64,
     from: u64,
     to: u64,
-) -> u64
-    requires { FineTimes separations.now costs.now n × (i < n) × (t ≤ number_limit) × (period ≤ number_limit) × (b ≤ number_limit) × (1 ≤ from) × (from ≤ to) × (to ≤ suc period) }
-    ensures { EnoughIs period (need_of b (due_task costs.now i t) (higher (suc i) (times_of separations.now costs.now n)) t) t from to result }
+) -> Option<u64>
+    requires { FineTimes tasks.now × (i < tasks.now.count) × (t ≤ number_limit) × (period ≤ number_limit) × (b ≤ number_limit) × (1 ≤ from) × (from ≤ to) × (to ≤ suc period) }
+    ensures { result ≡ enough_from period (need_of b (due_task tasks.now.costs i t) (above tasks.now i) t) t from to }
 {
-    let own = costs[i] + b;
+    let own = tasks.costs[i] + b;
     if t < own {
-        return to;
+        return None;
     }
-    let need = own + demand::demand_from(separations, costs, n, i + 1, t);
+    let need = own + tasks.demand_from(i + 1, t);
     if t < need {
-        return to;
+        return None;
     }
     let mut least = from;
     let mut most = to;
@@ -91,81 +84,61 @@ fn enough_at(
             least = middle + 1;
         }
     }
-    most
-}
-
-// The budget to be tried next, from low up to high, high left out: the middle, or the last.
-fn tried(low: u64, high: u64, halve: bool) -> u64
-    requires { low < high }
-    ensures { (low ≤ result) × (result < high) }
-{
-    if halve {
-        low + (high - low) / 2
-    } else {
-        high - 1
-    }
+    (most < to).then_some(most)
 }
 
 // The least budget of a task, and a time before which the task's need is not met with it.
 #[derive(Clone, Copy)]
 pub struct Passed {
-    pub budget: Least,
+    pub budget: u64,
     pub time: u64,
 }
 
 // The least budget, from q to the whole period, with which the task at the place i, blocked for at most b ticks, passes. With q its need is not met before
 // `start`.
 pub fn least_budget(
-    separations: &[u64; 16],
-    costs: &[u64; 16],
-    n: usize,
+    tasks: &Workload,
     i: usize,
     deadline: u64,
     period: u64,
     b: u64,
     q: u64,
     start: u64,
-) -> Passed
-    requires { FineTimes separations.now costs.now n × (i < n) × (deadline ≤ number_limit) × (period ≤ number_limit) × (b ≤ number_limit) × (1 ≤ q) × (q ≤ period) × (1 ≤ start) × NoneMet period q b (due_task costs.now i deadline) (higher (suc i) (times_of separations.now costs.now n)) start }
-    ensures { PassedIs period b (due_task costs.now i deadline) (higher (suc i) (times_of separations.now costs.now n)) (budget_from period q b (due_task costs.now i deadline) (higher (suc i) (times_of separations.now costs.now n))) result }
+) -> Option<Passed>
+    requires { FineSearch tasks.now i deadline period b q start }
+    ensures { PassedIs period b (due_task tasks.now.costs i deadline) (above tasks.now i) (budget_from period q b (due_task tasks.now.costs i deadline) (above tasks.now i)) result }
 {
-    if let Least::At(t) = passing_time(separations, costs, n, i, deadline, period, b, q, start) {
-        return Passed {
-            budget: Least::At(q),
-            time: t,
-        };
+    if let Some(time) = passing_time(tasks, i, deadline, period, b, q, start) {
+        return Some(Passed { budget: q, time });
     }
-    // The deadline is a likely time to pass at. A budget past the period stands for none.
-    let past = period + 1;
-    let mut high = enough_at(separations, costs, n, i, deadline, period, b, q + 1, past);
+    // The deadline is a likely time to pass at.
+    let enough = enough_at(tasks, i, deadline, period, b, q + 1, period + 1);
+    // The least budget is from low up to high, or it is high, which `least` has, if any passes. With no budget from low up to high is the need met before `begin`.
+    let mut least = enough.map(|budget| Passed { budget, time: 1 });
+    let mut high = enough.unwrap_or(period + 1);
     let mut low = q + 1;
-    // With high the need is not met before `time`, with no budget from low up to high before `begin`.
-    let mut time: u64 = 1;
     let mut begin: u64 = 1;
     let mut halve = false;
     while low < high {
-        let next = tried(low, high, halve);
+        // In turns the last budget and the middle one.
+        // Kept: a bool that turns with each step is shorter than an enum of two cases with a function that turns it.
+        let next = if halve {
+            low + (high - low) / 2
+        } else {
+            high - 1
+        };
         halve = !halve;
-        match passing_time(separations, costs, n, i, deadline, period, b, next, begin) {
-            Least::At(t) => {
-                let end = demand::same_until(separations, n, i + 1, t, deadline);
-                high = enough_at(separations, costs, n, i, end, period, b, low, next);
-                time = t;
+        match passing_time(tasks, i, deadline, period, b, next, begin) {
+            Some(time) => {
+                let end = tasks.same_until(i + 1, time, deadline);
+                high = enough_at(tasks, i, end, period, b, low, next).unwrap_or(next);
+                least = Some(Passed { budget: high, time });
                 begin = end + 1;
             }
-            Least::Nothing => {
+            None => {
                 low = next + 1;
             }
         }
     }
-    if high == past {
-        return Passed {
-            budget: Least::Nothing,
-            time: 1,
-        };
-    }
-    Passed {
-        budget: Least::At(high),
-        time,
-    }
+    least
 }

@@ -4,24 +4,16 @@
 use planner::{Frac, Row, Rows, Weighed};
 use std::io;
 
-fn print_number(rt: &impl Print, before: &str, n: u64) -> io::Result<()> {
-    print!(rt; "{before}{n}")
-}
-
 fn print_supply(rt: &impl Print, p: u64, q: u64, t: u64) -> io::Result<()> {
     let a = planner::supply(p, q, t);
-    print_number(rt, "supply\t", p)?;
-    print_number(rt, "\t", q)?;
-    print_number(rt, "\t", t)?;
-    print_number(rt, "\t", planner::number(a.outcome))?;
-    print_number(rt, "\t", planner::place(a.outcome))?;
-    print_number(rt, "\t", a.ticks)?;
-    println!(rt)
+    let number = planner::number(a.outcome);
+    let place = planner::place(a.outcome);
+    println!(rt; "supply\t{p}\t{q}\t{t}\t{number}\t{place}\t{}", a.ticks)
 }
 
 fn print_supplies(rt: &impl Print, asked: &[(u64, u64, u64)]) -> io::Result<()> {
-    for (p, q, t) in asked {
-        print_supply(rt, *p, *q, *t)?;
+    for &(p, q, t) in asked {
+        print_supply(rt, p, q, t)?;
     }
     Ok(())
 }
@@ -158,218 +150,177 @@ fn supplies_bits(rt: &impl Print) -> io::Result<()> {
             (65536, 65536, 65536),
             (4294967306, 3, 15),
             (10, 3, 4294967311),
-            (
-                18446744073709551615,
-                18446744073709551615,
-                18446744073709551615,
-            ),
+            (u64::MAX, u64::MAX, u64::MAX),
         ],
     )
 }
 
-fn row(period: u64, budget: u64, holding: u64) -> Row {
-    Row {
-        period,
-        budget,
-        holding,
+// The rows of a weighing: of each its period, budget and holding time. Rows of zeros stand behind them.
+fn rows_of(first: &[(u64, u64, u64)]) -> Rows {
+    let mut rows = [Row {
+        period: 0,
+        budget: 0,
+        holding: 0,
+    }; 16];
+    for (row, &(period, budget, holding)) in rows.iter_mut().zip(first) {
+        *row = Row {
+            period,
+            budget,
+            holding,
+        };
     }
-}
-
-fn rows_of(a: Row, b: Row, c: Row, d: Row, count: usize) -> Rows {
-    let mut rows = [row(0, 0, 0); 16];
-    rows[0] = a;
-    rows[1] = b;
-    rows[2] = c;
-    rows[3] = d;
-    Rows { rows, count }
-}
-
-fn print_row(rt: &impl Print, r: Row) -> io::Result<()> {
-    print_number(rt, "\t", r.period)?;
-    print_number(rt, ",", r.budget)?;
-    print_number(rt, ",", r.holding)
+    Rows {
+        rows,
+        count: first.len(),
+    }
 }
 
 // The first four rows.
-fn print_rows(rt: &impl Print, rows: Rows) -> io::Result<()> {
-    for r in rows.rows.iter().take(4).take(rows.count) {
-        print_row(rt, *r)?;
+fn print_rows(rt: &impl Print, rows: &Rows) -> io::Result<()> {
+    for row in rows.rows.iter().take(4).take(rows.count) {
+        print!(rt; "\t{},{},{}", row.period, row.budget, row.holding)?;
     }
     Ok(())
 }
 
-fn print_bound(rt: &impl Print, b: Frac) -> io::Result<()> {
-    print_number(rt, "\t", b.num)?;
-    print_number(rt, "/", b.den)
+fn print_bound(rt: &impl Print, bound: &Frac) -> io::Result<()> {
+    print!(rt; "\t{}/{}", bound.num, bound.den)
 }
 
-fn print_bounds(rt: &impl Print, w: Weighed, count: usize) -> io::Result<()> {
-    for b in w.bounds.iter().take(count) {
-        print_bound(rt, *b)?;
+fn print_weighed(rt: &impl Print, w: &Weighed, count: usize) -> io::Result<()> {
+    for bound in w.bounds.iter().take(count) {
+        print_bound(rt, bound)?;
     }
-    Ok(())
+    print_bound(rt, &w.load)?;
+    print!(rt; "\t{}", w.row)
 }
 
-fn print_weighing(rt: &impl Print, rows: Rows) -> io::Result<()> {
+fn print_weighing(rt: &impl Print, rows: &Rows) -> io::Result<()> {
     print!(rt; "weigh")?;
     print_rows(rt, rows)?;
-    let w = planner::weigh(rows);
+    let w = planner::weigh(*rows);
     let number = planner::number(w.outcome);
-    print_number(rt, "\t= ", number)?;
-    print_number(rt, "\t", planner::place(w.outcome))?;
+    let place = planner::place(w.outcome);
+    print!(rt; "\t= {number}\t{place}")?;
     if number == 0 {
-        print_bounds(rt, w, rows.count)?;
-        print_bound(rt, w.load)?;
-        print_number(rt, "\t", w.row)?;
+        print_weighed(rt, &w, rows.count)?;
     }
     println!(rt)
 }
 
-fn weigh1(rt: &impl Print, a: Row) -> io::Result<()> {
-    let none = row(0, 0, 0);
-    print_weighing(rt, rows_of(a, none, none, none, 1))
-}
-
-fn weigh2(rt: &impl Print, a: Row, b: Row) -> io::Result<()> {
-    let none = row(0, 0, 0);
-    print_weighing(rt, rows_of(a, b, none, none, 2))
-}
-
-fn weigh3(rt: &impl Print, a: Row, b: Row, c: Row) -> io::Result<()> {
-    print_weighing(rt, rows_of(a, b, c, row(0, 0, 0), 3))
-}
-
-fn weigh4(rt: &impl Print, a: Row, b: Row, c: Row, d: Row) -> io::Result<()> {
-    print_weighing(rt, rows_of(a, b, c, d, 4))
+fn print_weighings(rt: &impl Print, asked: &[&[(u64, u64, u64)]]) -> io::Result<()> {
+    for &rows in asked {
+        print_weighing(rt, &rows_of(rows))?;
+    }
+    Ok(())
 }
 
 // Document 001: A5, A6, A9.
 fn weighings_figures_of_001(rt: &impl Print) -> io::Result<()> {
-    weigh2(rt, row(96, 2, 2), row(20, 2, 1))?;
-    weigh2(rt, row(20, 2, 1), row(96, 2, 2))?;
-    weigh2(rt, row(20, 2, 5), row(12, 2, 1))?;
-    weigh2(rt, row(20, 6, 3), row(12, 2, 1))
+    print_weighings(
+        rt,
+        &[
+            &[(96, 2, 2), (20, 2, 1)],
+            &[(20, 2, 1), (96, 2, 2)],
+            &[(20, 2, 5), (12, 2, 1)],
+            &[(20, 6, 3), (12, 2, 1)],
+        ],
+    )
 }
 
 // Document 000: B7, B19.
 fn weighings_figures_of_000(rt: &impl Print) -> io::Result<()> {
-    weigh1(rt, row(20, 2, 1))?;
-    weigh3(rt, row(500, 230, 74), row(550, 80, 0), row(1100, 120, 40))?;
-    weigh3(rt, row(50, 23, 0), row(55, 8, 0), row(110, 12, 0))
+    print_weighings(
+        rt,
+        &[
+            &[(20, 2, 1)],
+            &[(500, 230, 74), (550, 80, 0), (1100, 120, 40)],
+            &[(50, 23, 0), (55, 8, 0), (110, 12, 0)],
+        ],
+    )
 }
 
 // Document 004: C5.
 fn weighings_figures_of_004(rt: &impl Print) -> io::Result<()> {
-    weigh4(
+    print_weighings(
         rt,
-        row(1000, 50, 0),
-        row(1000, 50, 0),
-        row(1000, 100, 0),
-        row(500, 50, 0),
-    )?;
-    weigh4(
-        rt,
-        row(1000, 100, 0),
-        row(750, 150, 0),
-        row(304, 50, 0),
-        row(235, 100, 0),
-    )?;
-    weigh4(
-        rt,
-        row(1000, 100, 0),
-        row(750, 150, 0),
-        row(238, 50, 0),
-        row(235, 100, 0),
-    )?;
-    weigh4(
-        rt,
-        row(1000, 100, 0),
-        row(725, 175, 0),
-        row(238, 50, 0),
-        row(235, 100, 0),
-    )?;
-    weigh4(
-        rt,
-        row(1000, 100, 0),
-        row(750, 150, 0),
-        row(235, 100, 0),
-        row(227, 50, 0),
-    )?;
-    weigh4(
-        rt,
-        row(1000, 100, 0),
-        row(750, 150, 0),
-        row(235, 100, 0),
-        row(234, 50, 0),
-    )?;
-    weigh4(
-        rt,
-        row(1000, 100, 0),
-        row(750, 150, 0),
-        row(235, 100, 0),
-        row(233, 50, 0),
+        &[
+            &[(1000, 50, 0), (1000, 50, 0), (1000, 100, 0), (500, 50, 0)],
+            &[(1000, 100, 0), (750, 150, 0), (304, 50, 0), (235, 100, 0)],
+            &[(1000, 100, 0), (750, 150, 0), (238, 50, 0), (235, 100, 0)],
+            &[(1000, 100, 0), (725, 175, 0), (238, 50, 0), (235, 100, 0)],
+            &[(1000, 100, 0), (750, 150, 0), (235, 100, 0), (227, 50, 0)],
+            &[(1000, 100, 0), (750, 150, 0), (235, 100, 0), (234, 50, 0)],
+            &[(1000, 100, 0), (750, 150, 0), (235, 100, 0), (233, 50, 0)],
+        ],
     )
 }
 
 // Which t a bound has, and which row the load.
 fn weighings_readings(rt: &impl Print) -> io::Result<()> {
-    weigh2(rt, row(8, 1, 0), row(4, 1, 0))?;
-    weigh2(rt, row(4, 1, 0), row(2, 1, 0))?;
-    weigh2(rt, row(20, 8, 2), row(20, 5, 0))?;
-    weigh2(rt, row(20, 5, 1), row(10, 2, 0))?;
-    weigh2(rt, row(40, 6, 2), row(10, 2, 1))
+    print_weighings(
+        rt,
+        &[
+            &[(8, 1, 0), (4, 1, 0)],
+            &[(4, 1, 0), (2, 1, 0)],
+            &[(20, 8, 2), (20, 5, 0)],
+            &[(20, 5, 1), (10, 2, 0)],
+            &[(40, 6, 2), (10, 2, 1)],
+        ],
+    )
 }
 
 // At the limits and past them.
 fn weighings_limits(rt: &impl Print) -> io::Result<()> {
-    weigh1(rt, row(10, 1, 1000000))?;
-    weigh1(rt, row(10, 1, 1000001))?;
-    weigh2(rt, row(10, 10, 10), row(10, 0, 0))?;
-    weigh1(rt, row(10, 0, 0))?;
-    weigh1(rt, row(10, 11, 0))?;
-    weigh1(rt, row(999999, 999999, 0))?;
-    weigh1(rt, row(999999, 1000000, 0))?;
-    weigh1(rt, row(1000000, 1, 999998))?;
-    weigh1(rt, row(1000000, 1, 999999))?;
-    weigh1(rt, row(1000000, 1, 1000000))?;
-    weigh1(rt, row(1000000, 1, 1000001))?;
-    weigh1(rt, row(1000000, 999999, 0))?;
-    weigh1(rt, row(1000000, 1000000, 0))?;
-    weigh1(rt, row(1000000, 1000001, 0))?;
-    weigh1(rt, row(1000001, 1, 0))?;
-    weigh1(rt, row(1000001, 1000001, 0))?;
-    weigh2(rt, row(1000000, 1, 0), row(1000001, 1, 0))?;
-    weigh1(rt, row(65536, 65536, 0))?;
-    weigh1(rt, row(4294967306, 3, 0))?;
-    weigh1(rt, row(10, 3, 4294967296))?;
-    weigh1(
+    print_weighings(
         rt,
-        row(
-            18446744073709551615,
-            18446744073709551615,
-            18446744073709551615,
-        ),
+        &[
+            &[(10, 1, 1000000)],
+            &[(10, 1, 1000001)],
+            &[(10, 10, 10), (10, 0, 0)],
+            &[(10, 0, 0)],
+            &[(10, 11, 0)],
+            &[(999999, 999999, 0)],
+            &[(999999, 1000000, 0)],
+            &[(1000000, 1, 999998)],
+            &[(1000000, 1, 999999)],
+            &[(1000000, 1, 1000000)],
+            &[(1000000, 1, 1000001)],
+            &[(1000000, 999999, 0)],
+            &[(1000000, 1000000, 0)],
+            &[(1000000, 1000001, 0)],
+            &[(1000001, 1, 0)],
+            &[(1000001, 1000001, 0)],
+            &[(1000000, 1, 0), (1000001, 1, 0)],
+            &[(65536, 65536, 0)],
+            &[(4294967306, 3, 0)],
+            &[(10, 3, 4294967296)],
+            &[(u64::MAX, u64::MAX, u64::MAX)],
+        ],
     )
 }
 
 // The lowest row, and fifteen alike above it.
-fn weigh16(rt: &impl Print, lowest: Row, above: Row) -> io::Result<()> {
+fn weigh_sixteen(
+    rt: &impl Print,
+    lowest: (u64, u64, u64),
+    above: (u64, u64, u64),
+) -> io::Result<()> {
     let mut rows = [above; 16];
     rows[0] = lowest;
-    print_weighing(rt, Rows { rows, count: 16 })
+    print_weighing(rt, &rows_of(&rows))
 }
 
 // Sixteen rows: the longest period filled to its last tick, and a tick more; the greatest L(t). Then no row, and seventeen.
 fn weighings_sixteen(rt: &impl Print) -> io::Result<()> {
-    let fair = row(1000000, 31250, 31250);
-    weigh16(rt, fair, fair)?;
-    weigh16(rt, row(1000000, 31251, 31250), fair)?;
-    let short = row(1, 1, 1000000);
-    weigh16(rt, short, short)?;
-    weigh16(rt, row(1000000, 1000000, 1000000), short)?;
-    let none = row(0, 0, 0);
-    print_weighing(rt, rows_of(none, none, none, none, 0))?;
-    print_weighing(rt, rows_of(none, none, none, none, 17))
+    let fair = (1000000, 31250, 31250);
+    weigh_sixteen(rt, fair, fair)?;
+    weigh_sixteen(rt, (1000000, 31251, 31250), fair)?;
+    let short = (1, 1, 1000000);
+    weigh_sixteen(rt, short, short)?;
+    weigh_sixteen(rt, (1000000, 1000000, 1000000), short)?;
+    print_weighing(rt, &rows_of(&[]))?;
+    print_weighing(rt, &rows_of(&[(0, 0, 0); 17]))
 }
 
 fn main(rt: HostRuntime) -> io::Result<()> {

@@ -1,5 +1,6 @@
 -- The kept list, made by trying every setting on a list, is what the paper says of every setting and every budget.
 -- Assumes nothing.
+use Rattle.std.specs.Prelude.{Option, Some, None}
 use Prim.Native.Nat.{ℕ, ◌≤◌}
 use native.Mathlib.Omega.{arith}
 use mathlib.Core.Path.{◌≡◌, refl, sym, ap, ◌∙◌, subst}
@@ -7,8 +8,6 @@ use mathlib.Core.Bool.{Bool, true, false, cond}
 use mathlib.Core.Logic.{◌↔◌}
 use mathlib.Core.List.Memᴰ
 use mathlib.Core.List.{[], Memᴰ}
-use Rattle.least.specs.declared.Least.{Least}
-use Rattle.least.specs.declared.Least.TheVariants.{At, Nothing}
 use Rattle.least.proofs.Search.{least_upto, least_iff}
 use Rattle.least.proofs.Lists.{joined_map_iff, no_member}
 use Rattle.task_set.specs.Partition.{Partition}
@@ -25,19 +24,19 @@ use Rattle.candidates.proofs.Settings.{settings_ranged, settings_all}
 use Rattle.candidates.proofs.Falling.{Falling}
 use Rattle.candidates.proofs.Keeping.{pair_same, Covered, kept_among_iff, kept_among_falls, kept_among_covers}
 
-pair_with_iff : (X : ℕ) (a : Least) (c : Pair) → Memᴰ c (pair_with X a) ↔ ((X ≡ c.holding) × (a ≡ At c.budget))
-pair_with_iff X (At Q) c = (to, λ h. Memᴰ.head (pair_same c (pair Q X) (cc h.1) (sym h.0)))
+pair_with_iff : (X : ℕ) (a : Option ℕ) (c : Pair) → Memᴰ c (pair_with X a) ↔ ((X ≡ c.holding) × (a ≡ Some c.budget))
+pair_with_iff X (Some Q) c = (to, λ h. Memᴰ.head (pair_same c (pair Q X) (cc h.1) (sym h.0)))
   where
-    to : Memᴰ c (pair_with X (At Q)) → (X ≡ c.holding) × (At Q ≡ At c.budget)
-    to m = let e = Memᴰ.eq_of_singleton m in (ap (λ p. p.holding) (sym e), ap (λ p. At p.budget) (sym e))
-pair_with_iff X Nothing c = ((λ m. absurd (Memᴰ.not-nil m)), λ h. let z : ◌≡◌ {A = ℕ} 0 1 = cc h.1 in absurd (omega arith))
+    to : Memᴰ c (pair_with X (Some Q)) → (X ≡ c.holding) × (Some Q ≡ Some c.budget)
+    to m = let e = Memᴰ.eq_of_singleton m in (ap (λ p. p.holding) (sym e), ap (λ p. Some p.budget) (sym e))
+pair_with_iff X None c = ((λ m. absurd (Memᴰ.not-nil m)), λ h. let z : ◌≡◌ {A = ℕ} 0 1 = cc h.1 in absurd (omega arith))
 
 module _ (v : Partition) where
   -- σ is permitted, and c is its X with its least passing Q
   pub record PairOf (σ : Setting) (c : Pair) : Type 0 where
     pub held : permitted v σ ≡ true
     pub holding : holding_time_of v σ ≡ c.holding
-    pub budget : least_budget v σ ≡ At c.budget
+    pub budget : least_budget v σ ≡ Some c.budget
 
   candidate_of_iff : (σ : Setting) (c : Pair) → Memᴰ c (candidate_of v σ) ↔ PairOf σ c
   unfolding candidate_of

@@ -3,6 +3,7 @@
 --   Used v     == every lock has a user
 --   HasX v x   == x is the X of a permitted setting
 -- Assumes nothing.
+use Rattle.std.specs.Prelude.{Some}
 use Prim.Native.Nat.{ℕ, ◌+◌, ◌-◌, ◌*◌, ◌≤◌, ◌<◌}
 use native.Mathlib.Nat.{le_of_eq, le_trans, eq-or-lt_of_le, mul-le-mul_right}
 use native.Mathlib.Omega.{arith}
@@ -10,7 +11,6 @@ use mathlib.Core.Path.{◌≡◌, refl, ap}
 use mathlib.Core.Logic.{◌⊎◌, inl, inr, ⊎_elim}
 use mathlib.Core.List.{List, [], ◌∷◌, map, Memᴰ}
 use lib.ListN.{length}
-use Rattle.least.specs.declared.Least.TheVariants.{At}
 use Rattle.least.specs.Lists.{sum, range}
 use Rattle.least.proofs.Lists.{range_iff}
 use Rattle.least.proofs.Pairwise.{Pairwise}
@@ -51,7 +51,7 @@ module _ (v : Partition) (x y : ℕ) (σ : Setting) (h : y ≤ x) (ok : Permitte
   shown_beside = shown_under v x σ ok (le_trans u h)
 
   -- the lock that is held longest under the ceilings shown for x has a lower one there
-  lower_there : (l : ℕ) → 1 ≤ l → l ≤ v.locks → counted_time v l (shown_ceiling v x l) ≡ At (holding_time_of v (shown_ceiling v x)) → shown_ceiling v x l < σ l
+  lower_there : (l : ℕ) → 1 ≤ l → l ≤ v.locks → counted_time v l (shown_ceiling v x l) ≡ Some (holding_time_of v (shown_ceiling v x)) → shown_ceiling v x l < σ l
   lower_there l a b t = go (eq-or-lt_of_le (shown_beside l a b).1)
     where
       go : (shown_ceiling v x l ≡ σ l) ⊎ (shown_ceiling v x l < σ l) → shown_ceiling v x l < σ l
@@ -68,7 +68,7 @@ module _ (v : Partition) (x y : ℕ) (σ : Setting) (h : y ≤ x) (ok : Permitte
       each : (l : ℕ) → Memᴰ l (range 1 v.locks) → above v.tasks (shown_ceiling v x) l ≤ above v.tasks σ l
       each l k = let r = (range_iff 1 v.locks l).0 k in omega (arith, (shown_beside l r.0 r.1).1)
 
-      rises : (l : ℕ) × (1 ≤ l) × (l ≤ v.locks) × (counted_time v l (shown_ceiling v x l) ≡ At (holding_time_of v (shown_ceiling v x))) → sum (map (above v.tasks (shown_ceiling v x)) (range 1 v.locks)) < sum (map (above v.tasks σ) (range 1 v.locks))
+      rises : (l : ℕ) × (1 ≤ l) × (l ≤ v.locks) × (counted_time v l (shown_ceiling v x l) ≡ Some (holding_time_of v (shown_ceiling v x))) → sum (map (above v.tasks (shown_ceiling v x)) (range 1 v.locks)) < sum (map (above v.tasks σ) (range 1 v.locks))
       rises (l, a, b, t) =
           sum_rises (above v.tasks (shown_ceiling v x)) (above v.tasks σ) (range 1 v.locks) each l ((range_iff 1 v.locks l).1 (a, b)) (omega (arith, (shown_beside l a b).0.low, lower_there l a b t))
 

@@ -2,6 +2,7 @@
 --   blocking_at v σ i == the blocking of the task at the place i, from 0, under the setting σ
 --   level v x         == how many tasks are blocked, under the ceilings shown for x, as long as under the highest ceilings
 -- Assumes nothing.
+use Rattle.std.specs.Prelude.{Some}
 use Prim.Native.Nat.{ℕ, ◌≤◌, ◌<◌}
 use native.Mathlib.Nat.{le_trans}
 use native.Mathlib.Omega.{arith}
@@ -13,7 +14,6 @@ use mathlib.Core.List.{List, map}
 use lib.Dec.{eqb}
 use lib.ListN.{length}
 use borrow.Author.Tests.{eq-eqb, ne_eqb}
-use Rattle.least.specs.declared.Least.TheVariants.{At}
 use Rattle.least.specs.Lists.{sum, count_from}
 use Rattle.least.proofs.Lists.{count_to}
 use Rattle.least.proofs.Sums.{sum_rises, sum_most, length_count}
@@ -44,7 +44,7 @@ level v x = sum (map (at_highest v (shown_ceiling v x)) (count_from 0 (length v.
 
 -- lock l at the ceiling i has a holding time, with which P holds
 abbrev HeldAt : Partition → ℕ → ℕ → (ℕ → Type 0) → Type 0
-HeldAt v l i P = (w : ℕ) × (holding_of v.tasks l i ≡ At w) × P w
+HeldAt v l i P = (w : ℕ) × (holding_of v.tasks l i ≡ Some w) × P w
 
 -- a lock with more than one ceiling in range is shared
 raised_shared : (v : Partition) (l : ℕ) → lowest_ceiling l v.tasks < highest_ceiling v l → is_shared v l ≡ true
@@ -78,7 +78,7 @@ module _ (v : Partition) (x y : ℕ) (σ : Setting) (ok : Permitted v σ) (u : h
   blockings_most i = blocking_mono v.locks (shown_ceiling v y) (highest_ceiling v) (lower_than i v.tasks) ceilings_most
 
   -- at a ceiling i that is too low for y a lock is held for longer than y
-  too_low : (l i w : ℕ) → 1 ≤ l → l ≤ v.locks → shown_ceiling v x l ≤ i → i < shown_ceiling v y l → counted_time v l i ≡ At w → y < w
+  too_low : (l i w : ℕ) → 1 ≤ l → l ≤ v.locks → shown_ceiling v x l ≤ i → i < shown_ceiling v y l → counted_time v l i ≡ Some w → y < w
   too_low l i w a b low up e = go (dec_le w y)
     where
       go : Dec (w ≤ y) → y < w

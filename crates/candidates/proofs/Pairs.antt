@@ -1,95 +1,125 @@
--- The pairs of two arrays as a list: one more pair, the lighter ones, a store behind them, and the array of a kept list.
+-- A pair that is pushed to a kept list: from its end those that are not lighter go, then the pair is stored behind the others.
+--   Popped k c l == of the list k the first pairs are left in l, and no other was lighter than c
 -- Assumes nothing.
-use Prim.Native.Nat.{ℕ, zero, suc, ◌+◌, ◌≤◌, ◌<◌}
-use native.Mathlib.Numerals.{add-one}
+use Prim.Native.Nat.{ℕ, suc, ◌+◌, ◌-◌, ◌≤◌, ◌<◌}
+use native.Mathlib.Nat.{le_refl}
 use native.Mathlib.Omega.{arith}
-use native.Mathlib.Decide.{ℕ_discrete}
-use mathlib.Core.Path.{◌≡◌, refl, sym, ap, ap₂, ◌∙◌, subst}
-use mathlib.Core.List.Memᴰ
-use mathlib.Core.List.{List, [], ◌∷◌, ◌++◌, map, Memᴰ}
-use lib.ListN.{length, get_or, set, replicate, length-map}
-use lib.Seq.{get_or-set_same, get_or-set_other}
-use Rattle.least.specs.Lists.{count_from, pad}
-use Rattle.least.proofs.Lists.{count_from_lem, count_to, map_same}
-use Rattle.least.proofs.Sums.{length_count}
-use Rattle.least.proofs.Pad.{pad_none, set_pad}
-use Rattle.least.proofs.Pairwise.{Pairwise, pairwise_front}
+use mathlib.Core.Path.{◌≡◌, refl, sym, ap, ap₂, ◌∙◌}
+use mathlib.Core.List.{List, [], ◌∷◌, ◌++◌}
+use lib.ListN.{length, take, get_or, set, replicate, length-append}
+use lib.Seq.{length-take-le, take-suc, get_or-take, set-set}
+use Rattle.least.specs.Lists.{pad}
+use Rattle.least.proofs.Members.{each_place}
+use Rattle.least.proofs.Pad.{length_pad, set_pad, pad_none, pad_filler, get_d_pad_fits, take_pad}
 use Rattle.refusal.specs.Limits.{kept_limit}
 use Rattle.candidates.specs.declared.Pair.{Pair}
 use Rattle.candidates.specs.declared.Kept.{Kept}
 use Rattle.candidates.specs.Candidates.{pair, kept_answer}
-use Rattle.candidates.specs.Code.KeptSearch.{pair_at, pairs_of, LighterIs}
-use Rattle.candidates.proofs.Walk.{Behind, lighter, lighter_none, lighter_drop, lighter_keep, pushed}
+use Rattle.candidates.specs.Code.KeptSearch.{sum_of, pairs_of, lighter, pushed, FinePush}
+use Rattle.candidates.proofs.Walk.{lighter_drop, lighter_all}
 
--- one number more at the end
-map_next : {A : Type 0} (f : ℕ → A) (n a : ℕ) → map f (count_from a (suc n)) ≡ map f (count_from a n) ++ (f (a + n) ∷ [])
-unfolding count_from
-map_next f zero a = let e : a + 0 ≡ a = omega arith in rw e refl
-map_next {A} f (suc n) a = let e : suc a + n ≡ a + suc n = omega arith in ap (λ (l : List A). f a ∷ l) (map_next f n (suc a) ∙ ap (λ (k : ℕ). map f (count_from (suc a) n) ++ (f k ∷ [])) e)
+-- what stands in an answer
+abbrev pub pad_of : List Pair → List Pair
+pad_of cs = pad kept_limit (pair 0 0) cs
 
--- only the first n places count
-pairs_same : (bs hs cs ks : List ℕ) (n : ℕ) → ((k : ℕ) → k < n → get_or bs k 0 ≡ get_or cs k 0) → ((k : ℕ) → k < n → get_or hs k 0 ≡ get_or ks k 0) → pairs_of bs hs n ≡ pairs_of cs ks n
-unfolding pairs_of
-pairs_same bs hs cs ks n b h = map_same _ _ (count_from 0 n) (λ k m. let l : k < n = omega (arith, (count_from_lem n 0 k m).1) in ap₂ pair (b k l) (h k l))
+kept_pairs : (cs : List Pair) → (kept_answer cs).pairs ≡ pad_of cs
+unfolding kept_answer
+kept_pairs cs = refl
 
-module _ (budgets holdings : List ℕ) where
-  pub pairs_none : pairs_of budgets holdings 0 ≡ []
-  unfolding pairs_of count_from
-  pairs_none = refl
+pub kept_count : (cs : List Pair) → (kept_answer cs).count ≡ length cs
+unfolding kept_answer
+kept_count cs = refl
 
-  pub pairs_next : (n : ℕ) → pairs_of budgets holdings (suc n) ≡ pairs_of budgets holdings n ++ (pair_at budgets holdings n ∷ [])
-  unfolding pairs_of
-  pairs_next n = let e : 0 + n ≡ n = omega arith in map_next (pair_at budgets holdings) n 0 ∙ ap (λ (k : ℕ). map (pair_at budgets holdings) (count_from 0 n) ++ (pair_at budgets holdings k ∷ [])) e
+pub kept_room : (cs : List Pair) → length (kept_answer cs).pairs ≡ kept_limit
+kept_room cs = ap length (kept_pairs cs) ∙ length_pad kept_limit (pair 0 0) cs
 
-  pub pairs_length : (n : ℕ) → length (pairs_of budgets holdings n) ≡ n
-  unfolding pairs_of
-  pairs_length n = length-map (count_from 0 n) (pair_at budgets holdings) ∙ length_count n 0
+kept_is : (pairs : List Pair) (count : ℕ) (cs : List Pair) → pairs ≡ pad_of cs → count ≡ length cs → ◌≡◌ {A = Kept} (record { pairs = pairs; count = count }) (kept_answer cs)
+unfolding kept_answer
+kept_is pairs count cs e n = ap₂ (λ (ps : List Pair) (k : ℕ). record { pairs = ps; count = k }) e n
 
-  pub pairs_each : (n k : ℕ) → k < n → Memᴰ (pair_at budgets holdings k) (pairs_of budgets holdings n)
-  unfolding pairs_of
-  pairs_each n k h = Memᴰ.map (pair_at budgets holdings) (count_to n 0 k (omega arith) (omega arith))
+-- an array without pairs
+pub no_pairs : ◌≡◌ {A = Kept} (record { pairs = replicate kept_limit (pair 0 0); count = 0 }) (kept_answer [])
+no_pairs = kept_is (replicate kept_limit (pair 0 0)) 0 [] (pad_none kept_limit (pair 0 0)) refl
 
-  pub lighter_pairs : (n s r : ℕ) → Pairwise Behind (pairs_of budgets holdings n) → LighterIs budgets holdings n s r → pairs_of budgets holdings r ≡ lighter s (pairs_of budgets holdings n)
-  lighter_pairs zero s r p l = let e : r ≡ 0 = omega (arith, l.most) in rw (e, pairs_none) (sym (lighter_none s))
-  lighter_pairs (suc n) s r p l = go (λ q h. lighter_pairs n s r q h) (ℕ_discrete r (suc n))
-    where
-      front : List Pair
-      front = pairs_of budgets holdings n
+-- an answer holds its list
+pub pairs_answer : (cs : List Pair) → length cs ≤ kept_limit → pairs_of (kept_answer cs) ≡ cs
+unfolding kept_answer
+pairs_answer cs h = take_pad kept_limit (pair 0 0) cs h
 
-      ordered : Pairwise Behind (front ++ (pair_at budgets holdings n ∷ []))
-      ordered = subst (Pairwise Behind) (pairs_next n) p
+-- one more pair behind a list, and one fewer
+pad_push : (cs : List Pair) (c : Pair) → length cs < kept_limit → set (pad_of cs) (length cs) c ≡ pad_of (cs ++ (c ∷ []))
+pad_push cs c h = set_pad kept_limit (pair 0 0) cs c h
 
-      go : (Pairwise Behind front → LighterIs budgets holdings n s r → pairs_of budgets holdings r ≡ lighter s front) → Dec (r ≡ suc n) → pairs_of budgets holdings r ≡ lighter s (pairs_of budgets holdings (suc n))
-      go ih (yes e) = rw (e, pairs_next n) (sym (lighter_keep s front (pair_at budgets holdings n) ordered (l.last n (sym e))))
-      go ih (no e) =
-          let less : r ≤ n = omega (arith, l.most) in
-          let rest : LighterIs budgets holdings n s r = record { most = less; behind = λ k a b. l.behind k a (omega arith); last = l.last } in
-          rw (pairs_next n) (ih (pairwise_front front _ ordered) rest ∙ sym (lighter_drop s front (pair_at budgets holdings n) (l.behind n less (omega arith))))
+pad_pop : (cs : List Pair) (c : Pair) → length cs < kept_limit → set (pad_of (cs ++ (c ∷ []))) (length cs) (pair 0 0) ≡ pad_of cs
+pad_pop cs c h =
+    ap (λ (ps : List Pair). set ps (length cs) (pair 0 0)) (sym (pad_push cs c h))
+    ∙ set-set (pad_of cs) (length cs) c (pair 0 0)
+    ∙ pad_push cs (pair 0 0) h
+    ∙ pad_filler kept_limit (pair 0 0) cs
 
-  -- the array of a kept list, filled from the front
-  pub kept_start : replicate kept_limit (pair 0 0) ≡ pad kept_limit (pair 0 0) (pairs_of budgets holdings 0)
-  kept_start = pad_none kept_limit (pair 0 0) ∙ ap (pad kept_limit (pair 0 0)) (sym pairs_none)
+pub record Popped (k : Kept) (c : Pair) (l : Kept) : Type 0 where
+  pub few : l.count ≤ k.count
+  pub answer : l ≡ kept_answer (take l.count k.pairs)
+  pub light : lighter (sum_of c) (take l.count k.pairs) ≡ lighter (sum_of c) (pairs_of k)
 
-  pub kept_step : (pairs : List Pair) (i : ℕ) → i < kept_limit → pairs ≡ pad kept_limit (pair 0 0) (pairs_of budgets holdings i) → set pairs i (pair_at budgets holdings i) ≡ pad kept_limit (pair 0 0) (pairs_of budgets holdings (i + 1))
-  kept_step pairs i h e =
-      rw (e, add-one) (ap (λ (k : ℕ). set (pad kept_limit (pair 0 0) (pairs_of budgets holdings i)) k (pair_at budgets holdings i)) (sym (pairs_length i)) ∙ set_pad kept_limit (pair 0 0) (pairs_of budgets holdings i) (pair_at budgets holdings i) (omega (arith, pairs_length i)) ∙ ap (pad kept_limit (pair 0 0)) (sym (pairs_next i)))
+module _ {k : Kept} {c : Pair} (fine : FinePush k c) where
+  abbrev front : ℕ → List Pair
+  front n = take n k.pairs
 
-  pub kept_end : (pairs : List Pair) (i n : ℕ) → i ≡ n → pairs ≡ pad kept_limit (pair 0 0) (pairs_of budgets holdings i) → ◌≡◌ {A = Kept} (record { pairs = pairs; count = n }) (kept_answer (pairs_of budgets holdings n))
-  unfolding kept_answer
-  kept_end pairs i n q e =
-      ap₂ (λ (ps : List Pair) (k : ℕ). record { pairs = ps; count = k }) (e ∙ ap (λ (k : ℕ). pad kept_limit (pair 0 0) (pairs_of budgets holdings k)) q) (sym (pairs_length n))
+  pub popped_start : Popped k c k
+  popped_start = record { few = le_refl k.count; answer = fine.answer; light = refl }
 
-module _ (budgets holdings : List ℕ) where
-  -- a pair stored behind the first r; what stands before it is as it was
-  pub pairs_stored : (Q X r : ℕ) → r < length budgets → r < length holdings → pairs_of (set budgets r Q) (set holdings r X) (r + 1) ≡ pairs_of budgets holdings r ++ (pair Q X ∷ [])
-  pairs_stored Q X r b h =
-      rw (add-one) (pairs_next (set budgets r Q) (set holdings r X) r ∙ ap₂ (λ (cs : List Pair) (c : Pair). cs ++ (c ∷ [])) before last)
-    where
-      before : pairs_of (set budgets r Q) (set holdings r X) r ≡ pairs_of budgets holdings r
-      before = pairs_same (set budgets r Q) (set holdings r X) budgets holdings r (λ k l. get_or-set_other budgets r k Q 0 (λ e. omega arith)) (λ k l. get_or-set_other holdings r k X 0 (λ e. omega arith))
+  room : k.count ≤ length k.pairs
+  room = omega (arith, ap (λ (x : Kept). length x.pairs) fine.answer, kept_room (pairs_of k), fine.few)
 
-      last : pair_at (set budgets r Q) (set holdings r X) r ≡ pair Q X
-      last = ap₂ pair (get_or-set_same budgets r Q 0 b) (get_or-set_same holdings r X 0 h)
+  front_length : (n : ℕ) → n ≤ k.count → length (front n) ≡ n
+  front_length n h = length-take-le n k.pairs (omega (arith, room))
 
-  pub pairs_pushed : (n Q X r : ℕ) → Pairwise Behind (pairs_of budgets holdings n) → LighterIs budgets holdings n (Q + X) r → r < length budgets → r < length holdings → pairs_of (set budgets r Q) (set holdings r X) (r + 1) ≡ pushed Q X (pairs_of budgets holdings n)
-  pairs_pushed n Q X r p l b h = pairs_stored Q X r b h ∙ ap (λ (cs : List Pair). cs ++ (pair Q X ∷ [])) (lighter_pairs budgets holdings n (Q + X) r p l)
+  module _ {l : Kept} (p : Popped k c l) where
+    pairs_are : l.pairs ≡ pad_of (front l.count)
+    pairs_are = ap (λ (x : Kept). x.pairs) p.answer ∙ kept_pairs (front l.count)
+
+    -- the pairs that are left are as they were
+    pub popped_get : (i : ℕ) → i < l.count → get_or l.pairs i (pair 0 0) ≡ get_or k.pairs i (pair 0 0)
+    popped_get i h =
+        ap (λ (ps : List Pair). get_or ps i (pair 0 0)) pairs_are
+        ∙ get_d_pad_fits kept_limit (pair 0 0) (front l.count) i (omega (arith, front_length l.count p.few, p.few, fine.few))
+        ∙ get_or-take l.count k.pairs i (pair 0 0) h
+
+    pub popped_next : (n : ℕ) → l.count ≡ suc n → sum_of c ≤ sum_of (get_or l.pairs n (pair 0 0)) → Popped k c (record { pairs = set l.pairs n (pair 0 0); count = n })
+    popped_next n e heavy =
+        let g = get_or k.pairs n (pair 0 0) in
+        let split : front l.count ≡ front n ++ (g ∷ []) = ap front e ∙ take-suc k.pairs n (pair 0 0) (omega (arith, room, p.few)) in
+        let long : length (front n) ≡ n = front_length n (omega (arith, p.few)) in
+        record {
+          few = omega (arith, p.few);
+          answer = kept_is (set l.pairs n (pair 0 0)) n (front n)
+              (ap₂ (λ (ps : List Pair) (i : ℕ). set ps i (pair 0 0)) (pairs_are ∙ ap pad_of split) (sym long) ∙ pad_pop (front n) g (omega (arith, p.few, fine.few)))
+              (sym long);
+          light = sym (lighter_drop (sum_of c) (front n) g (omega (arith, ap sum_of (popped_get n (omega arith))))) ∙ ap (lighter (sum_of c)) (sym split) ∙ p.light;
+        }
+
+    -- what is left is lighter, where the last of it is
+    pub popped_light : ((n : ℕ) → l.count ≡ suc n → sum_of (get_or l.pairs n (pair 0 0)) < sum_of c) → lighter (sum_of c) (pairs_of k) ≡ front l.count
+    popped_light last = sym p.light ∙ lighter_all (sum_of c) (front l.count) (each_place (pair 0 0) (λ d. sum_of d < sum_of c) (front l.count) each)
+      where
+        each : (i : ℕ) → i < length (front l.count) → sum_of (get_or (front l.count) i (pair 0 0)) < sum_of c
+        each i h =
+            let few : i < l.count = omega (arith, front_length l.count p.few) in
+            let n = l.count - 1 in
+            let e : l.count ≡ suc n = omega arith in
+            omega (arith, ap sum_of (get_or-take l.count k.pairs i (pair 0 0) few), fine.rising i n (omega arith) (omega (arith, p.few)), ap sum_of (popped_get n (omega arith)), last n e)
+
+    module _ (light : lighter (sum_of c) (pairs_of k) ≡ front l.count) where
+      -- there is room for one pair more
+      pub popped_room : l.count < kept_limit
+      popped_room =
+          omega (arith, fine.room, length-append (lighter (sum_of c) (pairs_of k)) (c ∷ []), ap length light, front_length l.count p.few)
+
+      pub popped_push : ◌≡◌ {A = Kept} (record { pairs = set l.pairs l.count c; count = l.count + 1 }) (kept_answer (pushed c (pairs_of k)))
+      popped_push =
+          let long : length (front l.count) ≡ l.count = front_length l.count p.few in
+          kept_is (set l.pairs l.count c) (l.count + 1) (front l.count ++ (c ∷ []))
+          (ap₂ (λ (ps : List Pair) (i : ℕ). set ps i c) pairs_are (sym long) ∙ pad_push (front l.count) c (omega (arith, popped_room)))
+          (omega (arith, long, length-append (front l.count) (c ∷ [])))
+          ∙ ap (λ (cs : List Pair). kept_answer (cs ++ (c ∷ []))) (sym light)

@@ -1,132 +1,168 @@
--- The search for the kept list, as its loop has it: the arrays of one turn, and the list so far.
---   Prepared p c k table == the arrays are those of the part p: the columns of its tasks and of its locks, and the table of the longest uses
---   Searching            == the search has come to x, and the pairs are those that the walk keeps above x
+-- The search for the kept list, as its loop has it: what was raised and what passed in the last turn, and the list so far.
+--   Prepared p t             == the part is in range, and the tables are its own
+--   Searching p t r last k   == the search goes on from X − 1 of the last turn, and the list has what the walk keeps from X on
 -- Assumes nothing.
-use Prim.Native.Nat.{ℕ, ◌+◌, ◌-◌, ◌≤◌, ◌<◌}
+use Rattle.std.specs.Prelude.{Option, Some, None}
+use Prim.Native.Nat.{ℕ, zero, suc, ◌+◌, ◌-◌, ◌≤◌, ◌<◌}
+use native.Mathlib.Nat.{le_refl, eq-or-lt_of_le}
 use native.Mathlib.Omega.{arith}
 use mathlib.Core.Path.{◌≡◌, sym, ap, ◌∙◌, subst}
-use mathlib.Core.Bool.{true, false}
-use mathlib.Core.List.{List, [], ◌∷◌}
-use lib.ListN.{length, get_or, set, replicate, length-set, length-append, length-replicate}
+use mathlib.Core.Logic.{◌⊎◌, inl, inr}
+use mathlib.Core.List.{List, []}
+use lib.ListN.{length, get_or}
+use lib.Seq.{length-take-le, get_or-take}
+use Rattle.least.proofs.Members.{get_d_member}
+use Rattle.least.proofs.Pairwise.{Pairwise}
 use Rattle.refusal.specs.Limits.{number_limit, kept_limit}
 use Rattle.demand.specs.Code.Demand.{cost_limit}
 use Rattle.task_set.specs.declared.Part.{Part}
-use Rattle.task_set.specs.declared.Columns.{Columns}
-use Rattle.task_set.specs.declared.Locks.{Locks}
 use Rattle.task_set.specs.Code.Partition.{partition_of}
 use Rattle.task_set.specs.Code.Fine.{FinePart}
-use Rattle.task_set.specs.Code.ByColumn.{times_of, FineTimes, ColumnsAre}
-use Rattle.task_set.specs.Code.ByLock.{LocksAre, LongestBelow, blocking_by}
+use Rattle.task_set.specs.Code.ByColumn.{times_of}
+use Rattle.task_set.specs.Code.ByLock.{LowestAre, blocking_by}
 use Rattle.task_set.proofs.ByColumn.{columns_fine}
 use Rattle.task_set.proofs.ByLock.{lowest_most, longest_most, deadline_most}
 use Rattle.task_set.proofs.BlockingAt.{blocking_small}
 use Rattle.raising.specs.declared.Raised.{Raised}
-use Rattle.raising.specs.Code.Raising.{ceiling_at, FineLocks, RaisedIs}
+use Rattle.raising.specs.Code.Raising.{ceiling_at, FineLocks, AllRaised, RaisedIs}
+use Rattle.candidates.specs.declared.Kept.{Kept}
+use Rattle.candidates.specs.declared.Tables.{Tables}
 use Rattle.candidates.specs.declared.Budgeted.{Budgeted}
 use Rattle.candidates.specs.Candidates.{pair, kept_list, kept_answer}
 use Rattle.candidates.specs.Code.Candidates.{kept_of}
-use Rattle.candidates.specs.Code.KeptSearch.{FirstTimes, budget_step, BudgetIs, pairs_of, sum_at, LighterIs}
-use Rattle.candidates.proofs.Walk.{lighter, pushed, WalkedFrom, Walked, walk_zero}
-use Rattle.candidates.proofs.Pairs.{pairs_none, pairs_length, pairs_each, lighter_pairs, pairs_pushed}
-use Rattle.candidates.proofs.Turn.{SearchAt, search_start, walked_start, walked_few, candidate_small, raise_missed, raised_most, holding_most, budget_missed, budget_most, turn_push, turn_next, search_next}
+use Rattle.candidates.specs.Code.KeptSearch.{FirstTimes, TablesAre, FineTables, WereTested, BudgetIs, sum_of, pairs_of, pushed, FinePush}
+use Rattle.candidates.proofs.Walk.{WalkedFrom, Walked, walk_zero}
+use Rattle.candidates.proofs.Pairs.{kept_count, kept_room, pairs_answer}
+use Rattle.candidates.proofs.Turn.{SearchAt, lowest_at, search_start, walked_start, walked_few, candidate_small, raise_missed, raised_most, holding_most, budget_missed, budget_range, turn_push, search_next}
 
-pub record Prepared (p : Part) (c : Columns) (k : Locks) (table : List ℕ) : Type 0 where
+pub record Prepared (p : Part) (t : Tables) : Type 0 where
   pub fine : FinePart p
   pub period_some : 1 ≤ p.period
   pub period_most : p.period ≤ number_limit
-  pub columns : ColumnsAre p c
-  pub locks : LocksAre p k
-  pub below : LongestBelow p table
+  pub are : TablesAre p t
 
-pub record Searching (p : Part) (c : Columns) (table ceilings times blocked : List ℕ) (budget : ℕ) (budgets holdings : List ℕ) (count x : ℕ) : Type 0 where
-  pub search : SearchAt p c x ceilings times blocked budget
-  pub walked : Walked (partition_of p) x (pairs_of budgets holdings count)
-  pub room : length budgets ≡ kept_limit
-  pub rooms : length holdings ≡ kept_limit
-  pub ceilings_most : (j : ℕ) → j < p.locks → get_or ceilings j 0 ≤ 16
-  pub blocked_are : 1 ≤ count → (i : ℕ) → i < p.count → get_or blocked i 0 ≡ blocking_by table ceilings p.locks i
+pub record Searching (p : Part) (t : Tables) (r : Raised) (last : Option Budgeted) (k : Kept) : Type 0 where
+  pub search : SearchAt p t (r.holding - 1) r.ceilings r.times last
+  pub walked : WalkedFrom (partition_of p) r.holding (pairs_of k)
+  pub answer : k ≡ kept_answer (pairs_of k)
+  pub few : k.count ≤ kept_limit
+  pub ceilings_most : (j : ℕ) → j < t.lock_count → get_or r.ceilings j 0 ≤ 16
+  pub were_tested : WereTested t r.ceilings last
 
-module _ (p : Part) (c : Columns) (k : Locks) (table : List ℕ) (ready : Prepared p c k table) where
-  pub times_fine : FineTimes c.separations c.costs p.count
-  times_fine = columns_fine p ready.fine c ready.columns
+pub prepared : {p : Part} {t : Tables} → FinePart p × (1 ≤ p.period) × (p.period ≤ number_limit) → TablesAre p t → Prepared p t
+prepared fine are = record { fine = fine.0; period_some = fine.1; period_most = fine.2; are = are }
 
-  pub locks_fine : (ceilings : List ℕ) → ((j : ℕ) → j < p.locks → get_or ceilings j 0 ≤ 16) → FineLocks k.longest k.deadlines ceilings p.locks
+-- of two elements the first is related to the second
+pairwise_at : {A : Type 0} {R : A → A → Type 0} {xs : List A} (d : A) → Pairwise R xs → (i j : ℕ) → i < j → j < length xs → R (get_or xs i d) (get_or xs j d)
+pairwise_at d Pairwise.none i j l h = absurd (omega arith)
+pairwise_at d (Pairwise.more h p) i zero l u = absurd (omega arith)
+pairwise_at d (Pairwise.more h p) zero (suc j) l u = h _ (get_d_member _ j d (omega arith))
+pairwise_at d (Pairwise.more h p) (suc i) (suc j) l u = pairwise_at d p i j (omega arith) (omega arith)
+
+module _ {p : Part} {t : Tables} (ready : Prepared p t) where
+  pub tables_fine : FineTables t
+  tables_fine = record {
+    times = columns_fine p ready.fine t.columns ready.are.columns;
+    deadlines_most = λ i h. let f = ready.fine.each i (omega (arith, ready.are.columns.count)) in omega (arith, ready.are.columns.deadlines i (omega (arith, ready.fine.few, ready.are.columns.count)));
+    period_most = omega (arith, ready.are.period, ready.period_most);
+    few_locks = omega (arith, ready.are.lock_count, ready.fine.few_locks);
+    blockings_most = λ ceilings i h. omega (arith, ap (λ (m : ℕ). blocking_by t.below ceilings m i) ready.are.lock_count, blocking_small p ready.fine i (omega (arith, ready.are.columns.count)) t.below ceilings ready.are.below);
+  }
+
+  pub locks_fine : (ceilings : List ℕ) → ((j : ℕ) → j < t.lock_count → get_or ceilings j 0 ≤ 16) → FineLocks t.locks ceilings t.lock_count
   locks_fine ceilings most = record {
-    few = ready.fine.few_locks;
-    longest_some = λ j h. omega (arith, ready.locks.longest j h, ready.fine.used _ (omega arith) h);
-    longest_most = λ j h. omega (arith, ready.locks.longest j h, longest_most p ready.fine _ (omega arith) h);
-    limits_most = λ j h. omega (arith, ready.locks.deadlines j h, deadline_most p ready.fine _ (omega arith) h);
+    few = omega (arith, ready.are.lock_count, ready.fine.few_locks);
+    each = λ j h.
+        let l : j < p.locks = omega (arith, ready.are.lock_count) in
+        record {
+          longest_some = omega (arith, ready.are.locks.longest j l, ready.fine.used _ (omega arith) l);
+          longest_most = omega (arith, ready.are.locks.longest j l, longest_most p ready.fine _ (omega arith) l);
+          deadline_most = omega (arith, ready.are.locks.deadlines j l, deadline_most p ready.fine _ (omega arith) l);
+        };
     ceilings_most = most;
   }
 
-  pub deadlines_fine : (i : ℕ) → i < p.count → get_or c.deadlines i 0 ≤ number_limit
-  deadlines_fine i h = let f = ready.fine.each i h in omega (arith, ready.columns.deadlines i (omega (arith, ready.fine.few)))
+  pub searching_start : {ceilings times : List ℕ} → LowestAre t.locks ceilings → FirstTimes p.shared times → {k : Kept} → k ≡ kept_answer [] → Searching p t (record { ceilings = ceilings; times = times; holding = number_limit + 1 }) None k
+  searching_start {ceilings} {times} lowest first {k} e = rw e (record {
+    search = search_start ready.fine ready.are ready.period_some ceilings lowest times first;
+    walked = rw (pairs_answer [] (omega arith)) (walked_start p ready.fine);
+    answer = ap kept_answer (sym (pairs_answer [] (omega arith)));
+    few = omega (arith, kept_count []);
+    ceilings_most = λ j h.
+        let l : j < p.locks = omega (arith, ready.are.lock_count) in
+        omega (arith, lowest_at ready.fine ready.are ceilings lowest j l, lowest_most p ready.fine _ (omega arith) l, ready.fine.few);
+    were_tested = _;
+  })
 
-  pub blockings_fine : (ceilings : List ℕ) (i : ℕ) → i < p.count → blocking_by table ceilings p.locks i ≤ number_limit
-  blockings_fine ceilings i h = blocking_small p ready.fine i h table ceilings ready.below
+  module _ {r : Raised} {last : Option Budgeted} {k : Kept} (s : Searching p t r last k) where
+    -- what is on the list, by places
+    at_place : (i : ℕ) → i < k.count → get_or (pairs_of k) i (pair 0 0) ≡ get_or k.pairs i (pair 0 0)
+    at_place i h = get_or-take k.count k.pairs i (pair 0 0) h
 
-  pub searching_start : (times : List ℕ) → FirstTimes p.shared times → (x : ℕ) → number_limit < x → Searching p c table k.lowest times (replicate 16 x) 1 (replicate kept_limit 0) (replicate kept_limit 0) 0 number_limit
-  searching_start times first x h = record {
-    search = search_start p ready.fine c k ready.locks ready.period_some times first x h;
-    walked = subst (Walked (partition_of p) number_limit) (sym (pairs_none (replicate kept_limit 0) (replicate kept_limit 0))) (walked_start p ready.fine);
-    room = length-replicate {A = ℕ} kept_limit 0;
-    rooms = length-replicate {A = ℕ} kept_limit 0;
-    ceilings_most = λ j l. omega (arith, ready.locks.lowest j l, lowest_most p ready.fine _ (omega arith) l, ready.fine.few);
-    blocked_are = λ o. absurd (omega arith);
-  }
+    list_length : length (pairs_of k) ≡ k.count
+    list_length = length-take-le k.count k.pairs (omega (arith, s.few, ap (λ (x : Kept). length x.pairs) s.answer, kept_room (pairs_of k)))
 
-  module _ (ceilings times blocked : List ℕ) (budget : ℕ) (budgets holdings : List ℕ) (count x : ℕ) (s : Searching p c table ceilings times blocked budget budgets holdings count x) where
-    pub pairs_few : count ≤ kept_limit
-    pairs_few = omega (arith, pairs_length budgets holdings count, walked_few p ready.fine _ (pairs_of budgets holdings count) s.walked)
+    sums_small : (i : ℕ) → i < k.count → sum_of (get_or k.pairs i (pair 0 0)) ≤ cost_limit
+    sums_small i h =
+        let d = candidate_small p ready.fine _ (s.walked.candidates _ (get_d_member (pairs_of k) i (pair 0 0) (omega (arith, list_length)))) in
+        omega (arith, d.0, d.1, ap sum_of (at_place i h), ready.period_most)
 
-    pub sums_small : (i : ℕ) → i < count → sum_at budgets holdings i ≤ cost_limit
-    sums_small i h = let d = candidate_small p ready.fine _ (s.walked.candidates _ (pairs_each budgets holdings count i h)) in omega (arith, d.0, d.1, ready.period_most)
+    sums_rise : (i j : ℕ) → i ≤ j → j < k.count → sum_of (get_or k.pairs i (pair 0 0)) ≤ sum_of (get_or k.pairs j (pair 0 0))
+    sums_rise i j l h = go (eq-or-lt_of_le l)
+      where
+        go : (i ≡ j) ⊎ (i < j) → sum_of (get_or k.pairs i (pair 0 0)) ≤ sum_of (get_or k.pairs j (pair 0 0))
+        go (inl e) = rw e (le_refl _)
+        go (inr u) =
+            let b = pairwise_at (pair 0 0) s.walked.ordered i j u (omega (arith, list_length)) in
+            omega (arith, b.sum, ap sum_of (at_place i (omega arith)), ap sum_of (at_place j h))
 
     -- the list is complete
-    complete : pairs_of budgets holdings count ≡ kept_list (partition_of p) → kept_answer (pairs_of budgets holdings count) ≡ kept_of (partition_of p)
-    complete e = ap kept_answer e
+    complete : pairs_of k ≡ kept_list (partition_of p) → k ≡ kept_of (partition_of p)
+    complete e = s.answer ∙ ap kept_answer e
 
-    module _ (r : Raised) (is : RaisedIs (ceiling_at (times_of c.separations c.costs p.count) k.longest k.deadlines ceilings times x) p.locks r) where
-      pub none_raised : r.found ≡ false → kept_answer (pairs_of budgets holdings count) ≡ kept_of (partition_of p)
-      none_raised e = complete (raise_missed p ready.fine c ready.columns k ready.locks x ceilings times blocked budget s.search r is _ s.walked e)
+    pub end_reached : r.holding ≤ 0 → k ≡ kept_of (partition_of p)
+    end_reached h = let e : r.holding ≡ 0 = omega arith in complete (walk_zero (partition_of p) _ (subst (λ (x : ℕ). WalkedFrom (partition_of p) x (pairs_of k)) e s.walked))
 
-      pub ceilings_raised : r.found ≡ true → (j : ℕ) → j < p.locks → get_or r.ceilings j 0 ≤ 16
-      ceilings_raised f = raised_most p ready.fine c ready.columns k ready.locks x ceilings times blocked budget s.search r is f
+    module _ (left : 0 < r.holding) where
+      walked : Walked (partition_of p) (r.holding - 1) (pairs_of k)
+      walked = let e : r.holding ≡ suc (r.holding - 1) = omega arith in subst (λ (x : ℕ). WalkedFrom (partition_of p) x (pairs_of k)) e s.walked
 
-      module _ (yes : r.found ≡ true) (b : Budgeted) (has : BudgetIs (budget_step (times_of c.separations c.costs p.count) c.costs c.deadlines p.period (blocking_by table r.ceilings p.locks) blocked) (blocking_by table r.ceilings p.locks) p.count budget b) where
-        pub none_passes : b.found ≡ false → kept_answer (pairs_of budgets holdings count) ≡ kept_of (partition_of p)
-        none_passes e = complete (budget_missed p ready.fine c ready.columns k ready.locks x ceilings times blocked budget s.search r is yes table ready.below b has _ s.walked e)
+      pub none_raised : RaisedIs (ceiling_at (times_of t.columns.times) t.locks r.ceilings r.times (r.holding - 1)) t.lock_count None → k ≡ kept_of (partition_of p)
+      none_raised m = complete (raise_missed ready.fine ready.are s.search m _ walked)
 
-        module _ (ok : b.found ≡ true) where
-          pub holding_falls : r.holding ≤ x
-          holding_falls = holding_most p ready.fine c ready.columns k ready.locks x ceilings times blocked budget s.search r is yes
+      module _ {n : Raised} (is : AllRaised (ceiling_at (times_of t.columns.times) t.locks r.ceilings r.times (r.holding - 1)) t.lock_count n) where
+        pub ceilings_raised : (j : ℕ) → j < t.lock_count → get_or n.ceilings j 0 ≤ 16
+        ceilings_raised j h = raised_most ready.fine ready.are s.search is j (omega (arith, ready.are.lock_count))
 
-          pub sum_small : b.budget + r.holding ≤ cost_limit
-          sum_small =
-              omega (arith, holding_falls, s.search.small, ready.period_most, budget_most p ready.fine c ready.columns k ready.locks x ceilings times blocked budget s.search r is yes table ready.below b has ok)
+        pub none_passes : BudgetIs t n.ceilings last None → k ≡ kept_of (partition_of p)
+        none_passes has = complete (budget_missed ready.fine ready.are s.search is has _ walked)
 
-          pushed_walked : WalkedFrom (partition_of p) r.holding (pushed b.budget r.holding (pairs_of budgets holdings count))
-          pushed_walked = turn_push p ready.fine c ready.columns k ready.locks x ceilings times blocked budget s.search r is yes table ready.below b has ok _ s.walked
+        pub holding_falls : n.holding < r.holding
+        holding_falls = omega (arith, holding_most ready.fine ready.are s.search is)
 
-          -- the pairs that are left, and the new one behind them
-          module _ (end : ℕ) (light : LighterIs budgets holdings count (b.budget + r.holding) end) where
-            pub end_fits : end < kept_limit
-            end_fits =
-                let left = lighter_pairs budgets holdings count (b.budget + r.holding) end s.walked.ordered light in
-                omega (arith, walked_few p ready.fine r.holding _ pushed_walked, length-append (lighter (b.budget + r.holding) (pairs_of budgets holdings count)) (pair b.budget r.holding ∷ []), ap length left, pairs_length budgets holdings end)
+        module _ {b : Budgeted} (has : BudgetIs t n.ceilings last (Some b)) where
+          pushed_walked : WalkedFrom (partition_of p) n.holding (pushed (pair b.budget n.holding) (pairs_of k))
+          pushed_walked = turn_push ready.fine ready.are s.search is has _ walked
 
-            stored : pairs_of (set budgets end b.budget) (set holdings end r.holding) (end + 1) ≡ pushed b.budget r.holding (pairs_of budgets holdings count)
-            stored = pairs_pushed budgets holdings count b.budget r.holding end s.walked.ordered light (omega (arith, s.room, end_fits)) (omega (arith, s.rooms, end_fits))
+          room : length (pushed (pair b.budget n.holding) (pairs_of k)) ≤ kept_limit
+          room = walked_few p ready.fine n.holding _ pushed_walked
 
-            pub end_reached : r.holding ≡ 0 → kept_answer (pairs_of (set budgets end b.budget) (set holdings end r.holding) (end + 1)) ≡ kept_of (partition_of p)
-            end_reached z = ap kept_answer (stored ∙ walk_zero (partition_of p) _ (subst (λ (e : ℕ). WalkedFrom (partition_of p) e (pushed b.budget r.holding (pairs_of budgets holdings count))) z pushed_walked))
+          pub push_fine : FinePush k (pair b.budget n.holding)
+          push_fine = record {
+            answer = s.answer;
+            few = s.few;
+            most = sums_small;
+            rising = sums_rise;
+            sum_most = omega (arith, holding_falls, s.search.small, ready.period_most, ready.are.period, (budget_range ready.fine ready.are s.search is has).1);
+            room = room;
+          }
 
-            pub searching_next : 1 ≤ r.holding → Searching p c table r.ceilings r.times b.blocked b.budget (set budgets end b.budget) (set holdings end r.holding) (end + 1) (r.holding - 1)
-            searching_next h = record {
-              search = search_next p ready.fine c ready.columns k ready.locks x ceilings times blocked budget s.search r is yes table ready.below b has ok h;
-              walked = subst (Walked (partition_of p) (r.holding - 1)) (sym stored) (turn_next p ready.fine c ready.columns k ready.locks x ceilings times blocked budget s.search r is yes table ready.below b has ok _ s.walked h);
-              room = length-set budgets end b.budget ∙ s.room;
-              rooms = length-set holdings end r.holding ∙ s.rooms;
-              blocked_are = λ o. has.tested ok;
-              ceilings_most = ceilings_raised yes;
-            }
+          pub searching_next : {l : Kept} → l ≡ kept_answer (pushed (pair b.budget n.holding) (pairs_of k)) → Searching p t n (Some b) l
+          searching_next e = rw e (record {
+            search = search_next ready.fine ready.are s.search is has;
+            walked = rw (pairs_answer (pushed (pair b.budget n.holding) (pairs_of k)) room) pushed_walked;
+            answer = ap kept_answer (sym (pairs_answer (pushed (pair b.budget n.holding) (pairs_of k)) room));
+            few = omega (arith, kept_count (pushed (pair b.budget n.holding) (pairs_of k)), room);
+            ceilings_most = ceilings_raised;
+            were_tested = has.tested;
+          })

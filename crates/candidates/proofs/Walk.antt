@@ -1,10 +1,10 @@
 -- The kept list by a walk through falling X: from x on take the pair (Q,X) of the ceilings shown for x, drop from the list the pairs whose sum Q+X is
 -- no smaller, put (Q,X) behind it, and go on from X − 1.
 --   Behind c d        == d has a smaller X and a greater Q+X than c
---   lighter s cs      == the pairs with Q+X < s
 --   WalkedFrom v e cs == cs is what the walk keeps of the candidates with X ≥ e
 --   Walked v x cs     == of those with X > x
 -- Assumes nothing.
+use Rattle.std.specs.Prelude.{Some, None}
 use Prim.Native.Nat.{ℕ, suc, ◌+◌, ◌-◌, ◌≤◌, ◌<◌}
 use native.Mathlib.Nat.{le_refl}
 use native.Mathlib.Omega.{arith}
@@ -13,13 +13,11 @@ use mathlib.Core.Path.{◌≡◌, refl, sym, ap, subst}
 use mathlib.Core.Logic.{◌⊎◌, inl, inr, ⊎_elim}
 use mathlib.Core.List.Memᴰ
 use mathlib.Core.List.{List, [], ◌∷◌, ◌++◌, Memᴰ}
-use lib.Dec.{ltb}
 use borrow.Author.Tests.{ltb-true, lt-ltb, le-ltb}
-use Rattle.least.specs.declared.Least.TheVariants.{At, Nothing}
 use Rattle.least.specs.Lists.{those}
 use Rattle.least.proofs.Lists.{those_member, those_passing}
 use Rattle.least.proofs.Those.{those_all, those_dropped}
-use Rattle.least.proofs.Pairwise.{Pairwise, pairwise_those, pairwise_map, pairwise_snoc, pairwise_across, pairwise_members, pairwise_unique}
+use Rattle.least.proofs.Pairwise.{Pairwise, pairwise_those, pairwise_map, pairwise_snoc, pairwise_members, pairwise_unique}
 use Rattle.task_set.specs.Partition.{Partition}
 use Rattle.task_set.specs.Blocking.{Setting}
 use Rattle.holding.specs.Holding.{holding_time_of}
@@ -27,13 +25,11 @@ use Rattle.budget.specs.Budget.{least_budget}
 use Rattle.candidates.specs.declared.Pair.{Pair}
 use Rattle.candidates.specs.Candidates.{pair, candidates_in, kept_among, kept_list, shown_ceiling}
 use Rattle.candidates.specs.Statement.{Permitted, Candidate}
+use Rattle.candidates.specs.Code.KeptSearch.{sum_of, lighter, pushed}
 use Rattle.candidates.proofs.Falling.{Falling}
 use Rattle.candidates.proofs.Keeping.{pair_same, NoWorse, Alone, Covered, kept_among_iff, kept_among_falls}
 use Rattle.candidates.proofs.Candidates.{candidate_iff}
 use Rattle.candidates.proofs.Shown.{lowest_within, found_none, candidate_shown, no_budget_below}
-
-abbrev pub sum_of : Pair → ℕ
-sum_of c = c.budget + c.holding
 
 pub record Behind (c d : Pair) : Type 0 where
   pub holding : d.holding < c.holding
@@ -110,11 +106,7 @@ module _ (v : Partition) where
   kept_criterion cs candidates ordered covers =
       among_criterion (candidates_in v) cs (λ c k. (candidate_iff v c).1 (candidates c k)) ordered (λ d m. covers d ((candidate_iff v d).0 m))
 
--- the pairs with a sum below s
-abbrev pub lighter : ℕ → List Pair → List Pair
-lighter s cs = those (λ c. ltb (sum_of c) s) cs
-
--- Found from the end: a last pair that is not lighter goes; where the last is lighter, all are.
+-- Found from the end: a last pair that is not lighter goes, until all are.
 pub lighter_none : (s : ℕ) → lighter s [] ≡ []
 unfolding those
 lighter_none s = refl
@@ -122,18 +114,8 @@ lighter_none s = refl
 pub lighter_drop : (s : ℕ) (cs : List Pair) (c : Pair) → s ≤ sum_of c → lighter s (cs ++ (c ∷ [])) ≡ lighter s cs
 lighter_drop s cs c l = those_dropped _ cs c (le-ltb (sum_of c) s l)
 
-pub lighter_keep : (s : ℕ) (cs : List Pair) (c : Pair) → Pairwise Behind (cs ++ (c ∷ [])) → sum_of c < s → lighter s (cs ++ (c ∷ [])) ≡ cs ++ (c ∷ [])
-lighter_keep s cs c p l = those_all _ (cs ++ (c ∷ [])) (λ d k. lt-ltb (sum_of d) s (⊎_elim (before d) (last d) (Memᴰ.append_cases cs k)))
-  where
-    before : (d : Pair) → Memᴰ d cs → sum_of d < s
-    before d k = omega (arith, (pairwise_across cs p k (Memᴰ.head refl)).sum)
-
-    last : (d : Pair) → Memᴰ d (c ∷ []) → sum_of d < s
-    last d k = omega (arith, ap sum_of (Memᴰ.eq_of_singleton k))
-
--- the lighter pairs, and (Q,X) behind them
-abbrev pub pushed : ℕ → ℕ → List Pair → List Pair
-pushed Q X cs = lighter (Q + X) cs ++ (pair Q X ∷ [])
+pub lighter_all : (s : ℕ) (cs : List Pair) → ((d : Pair) → Memᴰ d cs → sum_of d < s) → lighter s cs ≡ cs
+lighter_all s cs all = those_all _ cs (λ d k. lt-ltb (sum_of d) s (all d k))
 
 pub record WalkedFrom (v : Partition) (e : ℕ) (cs : List Pair) : Type 0 where
   pub candidates : (c : Pair) → Memᴰ c cs → Candidate v c
@@ -153,35 +135,35 @@ module _ (v : Partition) where
     covers = λ d q l. absurd (omega (arith, most q.setting q.allowed, q.holding));
   }
 
-  module _ (x Q X : ℕ) (cs : List Pair) (w : Walked v x cs) (ok : Permitted v (shown_ceiling v x)) (is : holding_time_of v (shown_ceiling v x) ≡ X) (most : X ≤ x) (least : least_budget v (shown_ceiling v x) ≡ At Q) where
+  module _ (x Q X : ℕ) (cs : List Pair) (w : Walked v x cs) (ok : Permitted v (shown_ceiling v x)) (is : holding_time_of v (shown_ceiling v x) ≡ X) (most : X ≤ x) (least : least_budget v (shown_ceiling v x) ≡ Some Q) where
     of_lighter : (c : Pair) → Memᴰ c (lighter (Q + X) cs) → Memᴰ c cs × (sum_of c < Q + X)
     of_lighter c k = let h = those_member _ cs k in (h.0, ltb-true (sum_of c) (Q + X) h.1)
 
-    of_pushed : (R : Pair → Type 0) → ((c : Pair) → Memᴰ c cs → R c) → R (pair Q X) → (c : Pair) → Memᴰ c (pushed Q X cs) → R c
+    of_pushed : (R : Pair → Type 0) → ((c : Pair) → Memᴰ c cs → R c) → R (pair Q X) → (c : Pair) → Memᴰ c (pushed (pair Q X) cs) → R c
     of_pushed R old new c k =
         ⊎_elim (λ (q : Memᴰ c (lighter (Q + X) cs)). old c (of_lighter c q).0) (λ (q : Memᴰ c (pair Q X ∷ [])). subst R (sym (Memᴰ.eq_of_singleton q)) new) (Memᴰ.append_cases (lighter (Q + X) cs) k)
 
-    pushed_covers : (d : Pair) → Candidate v d → X ≤ d.holding → Covered (pushed Q X cs) d
+    pushed_covers : (d : Pair) → Candidate v d → X ≤ d.holding → Covered (pushed (pair Q X) cs) d
     pushed_covers d q l = go (dec_le d.holding x)
       where
-        new : Q + X ≤ sum_of d → Covered (pushed Q X cs) d
+        new : Q + X ≤ sum_of d → Covered (pushed (pair Q X) cs) d
         new h = (pair Q X, Memᴰ.append_right (lighter (Q + X) cs) (Memᴰ.head refl), record { holding = l; sum = h })
 
-        old : Covered cs d → Covered (pushed Q X cs) d
+        old : Covered cs d → Covered (pushed (pair Q X) cs) d
         old e = keep (dec_lt (sum_of e.0) (Q + X))
           where
-            keep : Dec (sum_of e.0 < Q + X) → Covered (pushed Q X cs) d
+            keep : Dec (sum_of e.0 < Q + X) → Covered (pushed (pair Q X) cs) d
             keep (yes h) = (e.0, Memᴰ.append_left _ (those_passing _ cs e.1 (lt-ltb _ _ h)), e.2)
             keep (no h) = new (omega (arith, e.2.sum))
 
-        go : Dec (d.holding ≤ x) → Covered (pushed Q X cs) d
+        go : Dec (d.holding ≤ x) → Covered (pushed (pair Q X) cs) d
         go (yes h) =
             let b = candidate_shown v x d q h in
             let same : b.0 ≡ Q = cc b.1 in
             new (omega (arith, b.2))
         go (no h) = old (w.covers d q (omega arith))
 
-    pub walk_push : WalkedFrom v X (pushed Q X cs)
+    pub walk_push : WalkedFrom v X (pushed (pair Q X) cs)
     walk_push = record {
       candidates = of_pushed (Candidate v) w.candidates (record { setting = shown_ceiling v x; allowed = ok; holding = is; budget = least });
       above = of_pushed (λ c. X ≤ c.holding) (λ c k. omega (arith, w.above c k)) (le_refl X);
@@ -190,8 +172,8 @@ module _ (v : Partition) where
     }
 
     -- the same, where x can still fall
-    pub walk_next : 1 ≤ X → Walked v (X - 1) (pushed Q X cs)
-    walk_next h = let e : X ≡ suc (X - 1) = omega arith in subst (λ (k : ℕ). WalkedFrom v k (pushed Q X cs)) e walk_push
+    pub walk_next : 1 ≤ X → Walked v (X - 1) (pushed (pair Q X) cs)
+    walk_next h = let e : X ≡ suc (X - 1) = omega arith in subst (λ (k : ℕ). WalkedFrom v k (pushed (pair Q X) cs)) e walk_push
 
   -- all candidates are looked at: none has a smaller X
   pub walk_all : (e : ℕ) (cs : List Pair) → WalkedFrom v e cs → ((c : Pair) → Candidate v c → e ≤ c.holding) → cs ≡ kept_list v
@@ -209,8 +191,8 @@ module _ (v : Partition) where
   walk_zero cs w = walk_all 0 cs w (λ c q. omega arith)
 
   -- the walk ends where a lock has no ceiling within x, or no budget passes
-  pub walk_missed : (x l : ℕ) (cs : List Pair) → Walked v x cs → 1 ≤ l → l ≤ v.locks → lowest_within v x l ≡ Nothing → cs ≡ kept_list v
+  pub walk_missed : (x l : ℕ) (cs : List Pair) → Walked v x cs → 1 ≤ l → l ≤ v.locks → lowest_within v x l ≡ None → cs ≡ kept_list v
   walk_missed x l cs w a b e = walk_end x cs w (λ c q h. found_none v x l a b e q.setting q.allowed (omega (arith, q.holding)))
 
-  pub walk_no_budget : (x : ℕ) (cs : List Pair) → Walked v x cs → least_budget v (shown_ceiling v x) ≡ Nothing → cs ≡ kept_list v
+  pub walk_no_budget : (x : ℕ) (cs : List Pair) → Walked v x cs → least_budget v (shown_ceiling v x) ≡ None → cs ≡ kept_list v
   walk_no_budget x cs w e = walk_end x cs w (no_budget_below v x e)

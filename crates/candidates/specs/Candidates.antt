@@ -8,9 +8,7 @@
 --   kept_answer cs      == a list as the answer has it: up to kept_limit pairs, zeros in the places behind them, and their count
 --   shown_ceiling v x l == the ceiling shown for lock l: the lowest whose w is at most x and permitted; a private lock is listed with its lowest ceiling
 -- Assumes nothing.
-use Rattle.std.specs.Prelude.{ℕ, zero, suc, ◌+◌, ◌-◌, Bool, cond, not, ◌&&◌, ◌||◌, List, [], ◌∷◌, map, leb, ltb, eqb, length}
-use Rattle.least.specs.declared.Least.{Least}
-use Rattle.least.specs.declared.Least.TheVariants.{At, Nothing}
+use Rattle.std.specs.Prelude.{ℕ, zero, suc, ◌+◌, ◌-◌, Bool, cond, not, ◌&&◌, ◌||◌, List, [], ◌∷◌, map, leb, ltb, eqb, length, Option, Some, None}
 use Rattle.least.specs.Search.{least_from, number_or0}
 use Rattle.least.specs.Lists.{range, every, those, joined, pad}
 use Rattle.refusal.specs.Limits.{kept_limit}
@@ -39,9 +37,9 @@ abbrev pub settings : Partition → List Setting
 settings v = settings_to v v.locks
 
 -- the pair of a least budget with X, if there is such a budget
-abbrev pub pair_with : ℕ → Least → List Pair
-pair_with X (At Q) = pair Q X ∷ []
-pair_with X Nothing = []
+abbrev pub pair_with : ℕ → Option ℕ → List Pair
+pair_with X (Some Q) = pair Q X ∷ []
+pair_with X None = []
 
 unfoldable pub candidate_of : Partition → Setting → List Pair
 candidate_of v σ = cond (permitted v σ) (pair_with (holding_time_of v σ) (least_budget v σ)) []

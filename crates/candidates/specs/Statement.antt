@@ -3,8 +3,7 @@
 --   Candidate v c == c is a permitted setting's X with its least passing Q
 --   IsKept v c    == c is a candidate, and no other candidate has X no greater and Q+X no greater
 -- Assumes nothing.
-use Rattle.std.specs.Prelude.{◌+◌, ◌≤◌, ◌≡◌, true}
-use Rattle.least.specs.declared.Least.TheVariants.{At}
+use Rattle.std.specs.Prelude.{◌+◌, ◌≤◌, ◌≡◌, true, Some}
 use Rattle.task_set.specs.Partition.{Partition}
 use Rattle.task_set.specs.Blocking.{Setting}
 use Rattle.holding.specs.Holding.{in_range, permitted, holding_time_of}
@@ -19,7 +18,7 @@ pub record Candidate (v : Partition) (c : Pair) : Type 0 where
   pub setting : Setting
   pub allowed : Permitted v setting
   pub holding : holding_time_of v setting ≡ c.holding
-  pub budget : least_budget v setting ≡ At c.budget
+  pub budget : least_budget v setting ≡ Some c.budget
 
 pub record IsKept (v : Partition) (c : Pair) : Type 0 where
   pub candidate : Candidate v c

@@ -1,6 +1,9 @@
 -- The chart of the rows of a plan: questions 19 and 14 in their order, and what is handed over.
 -- Assumes nothing.
-use Prim.Native.Nat.{ℕ, ◌≤◌, ◌<◌}
+use Rattle.std.specs.Prelude.{Option, Some, None, Ok, option_map}
+use Rattle.std.specs.List.{position}
+use Prim.Native.Nat.{ℕ, ◌+◌, ◌≤◌, ◌<◌}
+use native.Mathlib.Omega.{arith}
 use mathlib.Core.Path.{◌≡◌, sym, ap, ◌∙◌}
 use mathlib.Core.Bool.{not}
 use mathlib.Core.List.{List, ◌++◌}
@@ -9,39 +12,55 @@ use lib.ListN.{drop}
 use Rattle.least.specs.Lists.{first_of}
 use Rattle.least.proofs.First.{first_every, first_not_every}
 use Rattle.refusal.specs.declared.Refusal.TheVariants.{NoRoom, OutOfCycle}
-use Rattle.refusal.specs.declared.Outcome.TheVariants.{Done}
 use Rattle.refusal.specs.Limits.{cycle}
 use Rattle.refusal.specs.Questions.{Answer, first_no, when_done}
 use Rattle.refusal.specs.Questions.Answer.{answered, refused}
 use Rattle.load.specs.declared.Row.{Row}
 use Rattle.load.specs.Code.Rows.{no_row}
+use Rattle.load.proofs.Position.{number_at, number_is}
 use Rattle.layout.specs.Layout.{chart, in_cycle}
 use Rattle.layout.proofs.Chart.{chart_length}
-use Rattle.answers.specs.Answers.{planned, buffer_after, HandedOver}
+use Rattle.answers.specs.Answers.{buffer_after}
+use Rattle.answers.specs.Code.Handing.{count_of, HandedOn}
 use Rattle.charting.specs.Code.Charted.{chart_of_rows}
 
 module _ (rows : List Row) (room : ℕ) where
-  -- the first row whose period does not divide the cycle; 0 where there is none
-  abbrev first_out : ℕ
-  first_out = first_of (λ r. not (in_cycle r)) rows
+  -- the number of the first row whose period does not divide the cycle, as the code has it
+  abbrev pub first_out : Option ℕ
+  first_out = option_map (λ k. k + 1) (position (λ r. not (in_cycle r)) rows)
 
-  pub chart_19 : 1 ≤ first_out → chart_of_rows rows room ≡ refused (OutOfCycle first_out)
+  number_out : (k : ℕ) → first_out ≡ Some k → (first_of (λ r. not (in_cycle r)) rows ≡ k) × (1 ≤ k)
+  number_out k e = go (position (λ r. not (in_cycle r)) rows) (number_is (λ r. not (in_cycle r)) rows) e
+    where
+      go : (p : Option ℕ) → first_of (λ r. not (in_cycle r)) rows ≡ number_at p → option_map (λ i. i + 1) p ≡ Some k → (first_of (λ r. not (in_cycle r)) rows ≡ k) × (1 ≤ k)
+      go (Some i) f e = let q : i + 1 ≡ k = cc e in (omega arith, omega arith)
+      go None f e = absurd (cc e)
+
+  none_out : first_out ≡ None → first_of (λ r. not (in_cycle r)) rows ≡ 0
+  none_out e = go (position (λ r. not (in_cycle r)) rows) (number_is (λ r. not (in_cycle r)) rows) e
+    where
+      go : (p : Option ℕ) → first_of (λ r. not (in_cycle r)) rows ≡ number_at p → option_map (λ i. i + 1) p ≡ None → first_of (λ r. not (in_cycle r)) rows ≡ 0
+      go (Some i) f e = absurd (cc e)
+      go None f e = f
+
+  pub chart_19 : (k : ℕ) → first_out ≡ Some k → chart_of_rows rows room ≡ refused (OutOfCycle k)
   unfolding chart_of_rows first_no when_done
-  chart_19 h = simp (first_not_every in_cycle rows no_row h)
+  chart_19 k e =
+      let n = number_out k e in
+      simp (first_not_every in_cycle rows no_row (omega (arith, n.0, n.1)), n.0)
 
-  pub chart_14 : first_out ≡ 0 → room < cycle → chart_of_rows rows room ≡ refused NoRoom
+  pub chart_14 : first_out ≡ None → room < cycle → chart_of_rows rows room ≡ refused NoRoom
   unfolding chart_of_rows first_no when_done
-  chart_14 e h = simp (first_every in_cycle rows e, lt-leb cycle room h)
+  chart_14 e h = simp (first_every in_cycle rows (none_out e), lt-leb cycle room h)
 
-  pub chart_fits : first_out ≡ 0 → cycle ≤ room → chart_of_rows rows room ≡ answered (chart rows)
+  pub chart_fits : first_out ≡ None → cycle ≤ room → chart_of_rows rows room ≡ answered (chart rows)
   unfolding chart_of_rows first_no when_done
-  chart_fits e h = simp (first_every in_cycle rows e, le-leb cycle room h)
+  chart_fits e h = simp (first_every in_cycle rows (none_out e), le-leb cycle room h)
 
--- a chart is handed over whole
-pub charted_over : (a : Answer (List ℕ)) (rows : List Row) (before after : List ℕ) → a ≡ answered (chart rows) → after ≡ chart rows ++ drop cycle before
-    → HandedOver a before (record { outcome = Done; written = cycle }) after
-unfolding planned buffer_after
-charted_over a rows before after e h = record {
-  result = ap (λ (n : ℕ). record { outcome = Done; written = n }) (sym (chart_length rows)) ∙ sym (ap planned e);
+-- a chart is handed on whole
+pub charted_on : (a : Answer (List ℕ)) (rows : List Row) (before after : List ℕ) → a ≡ answered (chart rows) → after ≡ chart rows ++ drop cycle before → HandedOn a before (Ok cycle) after
+unfolding count_of buffer_after
+charted_on a rows before after e h = record {
+  result = ap Ok (sym (chart_length rows)) ∙ sym (ap count_of e);
   bytes = h ∙ ap (λ (n : ℕ). chart rows ++ drop n before) (sym (chart_length rows)) ∙ sym (ap (λ (b : Answer (List ℕ)). buffer_after b before) e);
 }

@@ -1,21 +1,22 @@
 -- The number of a name is not 0 and fits 64 bits, and two names have the same number only if they are the same.
 -- Assumes nothing.
-use Prim.Native.Nat.{ℕ, zero, suc, ◌+◌, ◌*◌, ◌-◌, ◌^◌, ◌≤◌, ◌<◌}
+use Prim.Native.Nat.{ℕ, zero, suc, ◌+◌, ◌*◌, ◌^◌, ◌≤◌, ◌<◌}
 use native.Mathlib.Omega.{arith}
-use mathlib.Core.Path.{◌≡◌, refl, sym, ap₂, ◌∙◌}
+use mathlib.Core.Path.{◌≡◌, refl, sym, ap, ap₂, ◌∙◌}
 use mathlib.Core.Bool.{Bool, true, false, false≢true, and-false}
-use mathlib.Core.List.{List, [], ◌∷◌}
+use mathlib.Core.List.{List, [], ◌∷◌, ◌++◌, append-nil, append_assoc}
 use borrow.Author.Tests.{leb-true, leb-false, lt-leb}
 use lib.Dec.{leb}
-use lib.ListN.{length, drop, get_or, length-drop}
-use lib.Seq.{drop-cons}
+use Rattle.std.proofs.Common.{Option, Some, None, ◌⊎◌, inl, inr}
+use lib.ListN.{length, get_or, length-append}
+use lib.Seq.{get_or-append_seam}
 use Rattle.least.specs.Lists.{every}
-use Rattle.least.proofs.Lists.{every_cons, every_pass, every_member}
+use Rattle.least.proofs.Lists.{every_none, every_cons, every_pass, every_member}
 use Rattle.least.proofs.Members.{get_d_member}
 use Rattle.text.specs.Decimal.{is_digit}
 use Rattle.fields.specs.Fields.{is_name_byte, is_name}
 use Rattle.fields.proofs.Fields.{name_iff}
-use Rattle.codes.specs.Code.Codes.{byte_if, code_of, code_if}
+use Rattle.codes.specs.Code.Codes.{code_of, code_if}
 
 -- a byte of a name is a digit to base 256, and not 0
 byte_least : (b : ℕ) → is_name_byte b ≡ true → 48 ≤ b
@@ -37,29 +38,6 @@ byte_most b e = go (leb b 122) refl
     go false h =
         let l : 122 < b = leb-false b 122 h in
         let z : false ≡ true = simp (lt-leb b 57 (omega arith), h, and-false) at e in absurd (false≢true z)
-
--- by whether it is one
-pub byte_none : (b : ℕ) → is_name_byte b ≡ false → byte_if b ≡ 0
-unfolding byte_if
-byte_none b e = simp e
-
-pub byte_some : (b : ℕ) → is_name_byte b ≡ true → byte_if b ≡ b
-unfolding byte_if
-byte_some b e = simp e
-
-pub byte_zero : (b : ℕ) → byte_if b ≡ 0 → is_name_byte b ≡ false
-byte_zero b z = go (is_name_byte b) refl
-  where
-    go : (t : Bool) → is_name_byte b ≡ t → is_name_byte b ≡ false
-    go true e = absurd (omega (arith, z, byte_some b e, byte_least b e))
-    go false e = e
-
-pub byte_not_zero : (b : ℕ) → (byte_if b ≡ 0 → ⊥) → is_name_byte b ≡ true
-byte_not_zero b z = go (is_name_byte b) refl
-  where
-    go : (t : Bool) → is_name_byte b ≡ t → is_name_byte b ≡ true
-    go true e = e
-    go false e = absurd (z (byte_none b e))
 
 pub code_none : code_of [] ≡ 0
 unfolding code_of
@@ -90,69 +68,91 @@ code_below (suc k) (x ∷ xs) h l =
     let p = every_cons is_name_byte x xs h in
     omega (arith, code_cons x xs, byte_most x p.0, code_below k xs p.1 (omega arith))
 
--- one byte more at the front
-module _ (s : List ℕ) (i : ℕ) (from : 1 ≤ i) (to : i ≤ length s) where
-  front : drop (i - 1) s ≡ get_or s (i - 1) 0 ∷ drop i s
-  front = let e : suc (i - 1) ≡ i = omega arith in rw e at (drop-cons s (i - 1) 0 (omega arith))
-
-  pub code_more : code_of (drop i s) * 256 + get_or s (i - 1) 0 ≡ code_of (drop (i - 1) s)
-  code_more = rw (front, code_cons) (omega arith)
-
-  pub bytes_more : is_name_byte (get_or s (i - 1) 0) ≡ true → every is_name_byte (drop i s) ≡ true → every is_name_byte (drop (i - 1) s) ≡ true
-  bytes_more e h = rw front (every_pass is_name_byte _ _ e ∙ h)
-
-  pub code_more_fits : length s ≤ 8 → every is_name_byte (drop (i - 1) s) ≡ true → code_of (drop i s) * 256 + get_or s (i - 1) 0 < 2 ^ 64
-  code_more_fits l h = rw code_more (code_below 8 (drop (i - 1) s) h (rw length-drop (omega arith)))
-
 -- of names
-module _ (bs : List ℕ) (e : is_name bs ≡ true) where
-  pub code_name : code_if bs ≡ code_of bs
-  unfolding code_if
-  code_name = simp e
+pub code_fits : (bs : List ℕ) → is_name bs ≡ true → code_of bs < 2 ^ 64
+code_fits bs e = let n = (name_iff bs).0 e in code_below 8 bs n.bytes n.to
 
-  pub code_fits : code_if bs < 2 ^ 64
-  code_fits = let n = (name_iff bs).0 e in rw code_name (code_below 8 bs n.bytes n.to)
-
-  pub code_positive : 1 ≤ code_if bs
-  code_positive = rw code_name (go bs ((name_iff bs).0 e).from ((name_iff bs).0 e).bytes)
-    where
-      go : (xs : List ℕ) → 1 ≤ length xs → every is_name_byte xs ≡ true → 1 ≤ code_of xs
-      go [] h k = absurd (omega arith)
-      go (x ∷ xs) h k = omega (arith, code_cons x xs, byte_least x (every_cons is_name_byte x xs k).0)
+pub code_positive : (bs : List ℕ) → is_name bs ≡ true → 1 ≤ code_of bs
+code_positive bs e = go bs ((name_iff bs).0 e).from ((name_iff bs).0 e).bytes
+  where
+    go : (xs : List ℕ) → 1 ≤ length xs → every is_name_byte xs ≡ true → 1 ≤ code_of xs
+    go [] h k = absurd (omega arith)
+    go (x ∷ xs) h k = omega (arith, code_cons x xs, byte_least x (every_cons is_name_byte x xs k).0)
 
 -- the number where the bytes are no name, and where they are one
-pub code_long : (s : List ℕ) → 8 < length s → code_if s ≡ 0
-unfolding code_if is_name
-code_long s h = simp (lt-leb (length s) 8 h, and-false)
-
-pub code_stop : (s : List ℕ) (i : ℕ) → i < length s → is_name_byte (get_or s i 0) ≡ false → code_if s ≡ 0
+pub code_unnamed : (s : List ℕ) → is_name s ≡ false → code_if s ≡ None
 unfolding code_if
+code_unnamed s e = simp e
+
+pub code_named : (s : List ℕ) → is_name s ≡ true → code_if s ≡ Some (code_of s)
+unfolding code_if
+code_named s e = simp e
+
+pub code_stop : (s : List ℕ) (i : ℕ) → i < length s → is_name_byte (get_or s i 0) ≡ false → code_if s ≡ None
 code_stop s i h f = go (is_name s) refl
   where
-    go : (b : Bool) → is_name s ≡ b → code_if s ≡ 0
+    go : (b : Bool) → is_name s ≡ b → code_if s ≡ None
     go true e = absurd (false≢true (sym f ∙ every_member is_name_byte s ((name_iff s).0 e).bytes (get_d_member s i 0 h)))
-    go false e = simp e
+    go false e = code_unnamed s e
 
-pub code_all : (s : List ℕ) → length s ≤ 8 → every is_name_byte s ≡ true → code_of s ≡ code_if s
-unfolding code_of code_if is_name
-code_all [] l h = refl
-code_all (x ∷ xs) l h = sym (code_name (x ∷ xs) ((name_iff (x ∷ xs)).1 (record { from = omega arith; to = l; bytes = h })))
+pub code_of_length : (s : List ℕ) → (length s < 1) ⊎ ((1 ≤ length s) × (8 < length s)) → code_if s ≡ None
+unfolding is_name
+code_of_length s (inl h) = code_unnamed s (simp (lt-leb 1 (length s) h))
+code_of_length s (inr h) = code_unnamed s (simp (lt-leb (length s) 8 h.1, and-false))
 
-pub code_unnamed : (s : List ℕ) → code_if s ≡ 0 → is_name s ≡ false
-code_unnamed s z = go (is_name s) refl
+pub code_all : (s : List ℕ) → 1 ≤ length s → length s ≤ 8 → every is_name_byte s ≡ true → code_if s ≡ Some (code_of s)
+code_all s f l h = code_named s ((name_iff s).1 (record { from = f; to = l; bytes = h }))
+
+-- bytes read from the last on: `code` is the number of those behind `rest`, and they are bytes of a name
+pub record Read (s rest : List ℕ) (code : ℕ) : Type 0 where
+  pub behind : List ℕ
+  pub whole : s ≡ rest ++ behind
+  pub bytes : every is_name_byte behind ≡ true
+  pub is : code ≡ code_of behind
+
+pub read_none : (s : List ℕ) → Read s s 0
+read_none s = record { behind = []; whole = sym (append-nil s); bytes = every_none is_name_byte; is = sym code_none }
+
+-- one byte more, in front of them
+module _ (s rest : List ℕ) (b code : ℕ) (read : Read s (rest ++ (b ∷ [])) code) where
+  with_front : s ≡ rest ++ (b ∷ read.behind)
+  with_front = read.whole ∙ append_assoc rest (b ∷ []) read.behind
+
+  pub read_more : is_name_byte b ≡ true → Read s rest (code * 256 + b)
+  read_more e = record { behind = b ∷ read.behind; whole = with_front; bytes = every_pass is_name_byte b read.behind e ∙ read.bytes; is = rw (code_cons, ← read.is) (omega arith) }
+
+  pub read_fits : length s ≤ 8 → is_name_byte b ≡ true → code * 256 + b < 2 ^ 64
+  read_fits l e =
+      let m = read_more e in
+      omega (arith, m.is, code_below 8 m.behind m.bytes (omega (arith, ap length m.whole, length-append rest m.behind)))
+
+  pub read_stop : is_name_byte b ≡ false → code_if s ≡ None
+  read_stop e =
+      let l : length rest < length s = omega (arith, ap length with_front, length-append rest (b ∷ read.behind)) in
+      code_stop s (length rest) l (rw (with_front, get_or-append_seam rest b read.behind 0) e)
+
+pub read_all : (s rest : List ℕ) (code : ℕ) → length rest ≡ 0 → 1 ≤ length s → length s ≤ 8 → Read s rest code → code_if s ≡ Some code
+read_all s (b ∷ bs) code n f l read = absurd (omega arith)
+read_all s [] code n f l read = code_all s f l (rw read.whole read.bytes) ∙ ap Some (sym (read.is ∙ ap code_of (sym read.whole)))
+
+-- by what was found
+pub none_unnamed : (s : List ℕ) → code_if s ≡ None → is_name s ≡ false
+none_unnamed s z = go (is_name s) refl
   where
     go : (b : Bool) → is_name s ≡ b → is_name s ≡ false
-    go true e = absurd (omega (arith, z, code_positive s e))
+    go true e = let w : Some (code_of s) ≡ None = sym (code_named s e) ∙ z in cc
     go false e = e
 
-pub code_named : (s : List ℕ) → (code_if s ≡ 0 → ⊥) → is_name s ≡ true
-unfolding code_if
-code_named s z = go (is_name s) refl
-  where
-    go : (b : Bool) → is_name s ≡ b → is_name s ≡ true
-    go true e = e
-    go false e = absurd (z (simp e))
+pub record Coded (s : List ℕ) (code : ℕ) : Type 0 where
+  pub good : is_name s ≡ true
+  pub is : code ≡ code_of s
 
-pub code_injective : (a b : List ℕ) → is_name a ≡ true → is_name b ≡ true → code_if a ≡ code_if b → a ≡ b
-code_injective a b h k e =
-    code_bytes_injective a b ((name_iff a).0 h).bytes ((name_iff b).0 k).bytes (sym (code_name a h) ∙ e ∙ code_name b k)
+pub some_named : (s : List ℕ) (code : ℕ) → code_if s ≡ Some code → Coded s code
+some_named s code z = go (is_name s) refl
+  where
+    go : (b : Bool) → is_name s ≡ b → Coded s code
+    go true e = let w : Some (code_of s) ≡ Some code = sym (code_named s e) ∙ z in record { good = e; is = cc }
+    go false e = let w : ◌≡◌ {A = Option ℕ} None (Some code) = sym (code_unnamed s e) ∙ z in cc
+
+pub code_injective : (a b : List ℕ) → is_name a ≡ true → is_name b ≡ true → code_of a ≡ code_of b → a ≡ b
+code_injective a b h k e = code_bytes_injective a b ((name_iff a).0 h).bytes ((name_iff b).0 k).bytes e

@@ -1,6 +1,6 @@
 -- What stands in the program's buffer, zeros before, is what is to be printed: the listing behind a plan, the line behind a refusal.
 -- Assumes nothing.
-use Prim.Native.Nat.{ℕ, ◌+◌, ◌^◌, ◌≤◌, ◌<◌}
+use Prim.Native.Nat.{ℕ, ◌^◌, ◌≤◌, ◌<◌}
 use native.Mathlib.Omega.{arith}
 use mathlib.Core.Path.{◌≡◌, refl, sym, ap, ap₂, subst, ◌∙◌}
 use mathlib.Core.List.{List, [], ◌++◌}
@@ -38,8 +38,8 @@ printed_over text h = ap (λ (l : List ℕ). record { text = l; count = length t
 refusal_short : (n k : ℕ) → n < 2 ^ 64 → k < 2 ^ 64 → length (refused_line n k) ≤ 50
 refusal_short n k n-fits k-fits = omega (arith, refused_length n k, digits_most n n-fits, digits_most k k-fits)
 
-pub refusal_room : (at n k : ℕ) (buffer : List ℕ) → n < 2 ^ 64 → k < 2 ^ 64 → at + 50 ≤ length buffer → at + length (refused_line n k) ≤ length buffer
-refusal_room at n k buffer n-fits k-fits h = omega (arith, refusal_short n k n-fits k-fits)
+pub refusal_room : (n k : ℕ) (buffer : List ℕ) → n < 2 ^ 64 → k < 2 ^ 64 → 50 ≤ length buffer → length (refused_line n k) ≤ length buffer
+refusal_room n k buffer n-fits k-fits h = omega (arith, refusal_short n k n-fits k-fits)
 
 -- what stands in it behind a plan with the answer a
 done_printed : (a : Answer (List ℕ)) → ((text : List ℕ) → a ≡ answered text → length text ≤ program_room) → (planned a).outcome ≡ Done

@@ -7,6 +7,7 @@ ghost use Rattle.console.specs.Printed.{printed_of, printed};
 use refusal::Outcome;
 
 // The bytes to print are the first `count` of the text, zeros stand behind them.
+// Kept: an array with a count, as memory is fixed: a rule of the project.
 #[derive(Clone, Copy)]
 pub struct Printed {
     pub text: [u8; 8192],
@@ -18,19 +19,15 @@ pub fn print(file: &[u8]) -> Printed
     ensures bytes { result ≡ printed (printed_of file.now) }
     ensures room { result.count ≤ 8192 }
 {
-    let mut out = [0u8; 8192];
-    let p = planner::plan(file, &mut out);
-    let o = p.outcome;
-    match o {
-        Outcome::Done => Printed {
-            text: out,
-            count: p.written,
-        },
+    let mut text = [0; 8192];
+    let p = planner::plan(file, &mut text);
+    let count = match p.outcome {
+        Outcome::Done => p.written,
         Outcome::Refused(_) => {
-            let number = refusal::number(o);
-            let place = refusal::place(o);
-            let count = listing::write_refusal(number, place, &mut out, 0);
-            Printed { text: out, count }
+            let number = refusal::number(p.outcome);
+            let place = refusal::place(p.outcome);
+            listing::write_refusal(number, place, &mut text)
         }
-    }
+    };
+    Printed { text, count }
 }

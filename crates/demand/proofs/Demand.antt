@@ -3,6 +3,7 @@
 -- Assumes nothing.
 use Prim.Native.Nat.{ℕ, zero, suc, ◌+◌, ◌-◌, ◌*◌, ◌≤◌, ◌<◌}
 use native.Mathlib.Nat.{le_trans, mul-le-mul_right}
+use native.Mathlib.Numerals.{add-one}
 use native.Mathlib.Omega.{arith}
 use native.Mathlib.Decide.{dec_lt}
 use mathlib.Core.Path.{◌≡◌, refl, sym, ◌∙◌}
@@ -21,6 +22,9 @@ module _ (periods costs : List ℕ) (n : ℕ) where
   pub demand_next : (k t : ℕ) → k < n → demand_from periods costs n k t ≡ ceil_div t (get_or periods k 0) * get_or costs k 0 + demand_from periods costs n (suc k) t
   unfolding demand_from count_from sum
   demand_next k t h = let e : n - k ≡ suc (n - suc k) = omega arith in rw e refl
+
+  pub demand_turn : (k t m : ℕ) → k < n → m ≡ ceil_div t (get_or periods k 0) → demand_from periods costs n k t ≡ m * get_or costs k 0 + demand_from periods costs n (k + 1) t
+  demand_turn k t m h e = rw (e, add-one) (demand_next k t h)
 
   pub demand_none : (k t : ℕ) → n ≤ k → demand_from periods costs n k t ≡ 0
   unfolding demand_from count_from sum
@@ -55,6 +59,9 @@ module _ (periods costs : List ℕ) (n : ℕ) where
 
     pub demand_same : demand_from periods costs n s e ≡ demand_from periods costs n s t
     demand_same = same_from n s (omega arith) (omega arith)
+
+-- a turn of a loop that sums up the demand, its end, and its limit
+pub ruleset demand_laws = (demand_turn, demand_none, demand_most)
 
 module _ {A : Type 0} (period cost : A → ℕ) where
   -- what the elements of a list ask for

@@ -3,11 +3,10 @@
 -- Assumes nothing.
 use Prim.Native.Nat.{ℕ, ◌+◌, ◌*◌, ◌≤◌, ◌<◌, min}
 use native.Mathlib.Omega.{arith}
-use native.Mathlib.Nat.{le_trans, eq-or-lt_of_le}
-use mathlib.Core.Path.{◌≡◌, sym, subst}
-use mathlib.Core.Logic.{◌⊎◌, inl, inr}
+use mathlib.Core.Path.{◌≡◌}
 use mathlib.Core.List.{List}
 use lib.ListN.{get_or}
+use borrow.Author.Count.{below_more}
 use Rattle.least.specs.Round.{ceil_div}
 use Rattle.least.proofs.Round.{ceil_covers, ceil_same}
 use Rattle.demand.specs.Code.Demand.{FinePeriods, SameUntil}
@@ -22,18 +21,12 @@ pub record Within (periods : List ℕ) (s t most k e : ℕ) : Type 0 where
   pub each : (i : ℕ) → s ≤ i → i < k → e ≤ next_time periods t i
 
 module _ (periods : List ℕ) (s t most : ℕ) where
-  pub within_start : t ≤ most → Within periods s t most s most
-  within_start l = record { from = l; within = omega arith; each = λ i p h. absurd (omega arith) }
-
-  pub within_next : (k e m : ℕ) → 1 ≤ get_or periods k 0 → Within periods s t most k e → m ≡ min e (next_time periods t k) → Within periods s t most (k + 1) m
-  within_next k e m o w q = record { from = omega (arith, w.from, ceil_covers t (get_or periods k 0) o); within = omega (arith, w.within); each = each }
-    where
-      at : (i : ℕ) → s ≤ i → (i ≡ k) ⊎ (i < k) → m ≤ next_time periods t i
-      at i p (inl c) = subst (λ (j : ℕ). m ≤ next_time periods t j) (sym c) (omega arith)
-      at i p (inr h) = le_trans (omega arith) (w.each i p h)
-
-      each : (i : ℕ) → s ≤ i → i < k + 1 → m ≤ next_time periods t i
-      each i p h = at i p (eq-or-lt_of_le {n = i} {m = k} (omega arith))
+  pub within_next : (k e x m : ℕ) → 1 ≤ get_or periods k 0 → Within periods s t most k e → x ≡ next_time periods t k → m ≡ min e x → Within periods s t most (k + 1) m
+  within_next k e x m o w x-is m-is = record {
+    from = omega (arith, w.from, ceil_covers t (get_or periods k 0) o);
+    within = omega (arith, w.within);
+    each = λ i p h. below_more (λ j. s ≤ j → m ≤ next_time periods t j) k (λ j l q. omega (arith, w.each j q l)) (λ q. omega arith) i h p;
+  }
 
   pub within_end : (n k e : ℕ) → FinePeriods periods n → n ≤ k → Within periods s t most k e → SameUntil periods n s t most e
   within_end n k e fine l w = record {

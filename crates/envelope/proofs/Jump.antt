@@ -1,18 +1,14 @@
 -- Where a line meets a linear supply: a demand that is not below the line is met at no time before.
 -- Assumes nothing.
 use Prim.Native.Nat.{ℕ, ◌+◌, ◌-◌, ◌*◌, ◌/◌, ◌%◌, ◌≤◌, ◌<◌}
-use native.Mathlib.Nat.{le_trans, le_of_lt, sub-add_cancel, mul-add, mul_assoc, mul_left_comm, mul_comm, add-mul, mul-le-mul_left, mul-le-mul_right, le_of_mul-le-mul_right, div-mul-le_self, mod-add-div', le-div_iff_mul-le, div-lt_iff_lt-mul, div-le_of_le-mul}
+use native.Mathlib.Nat.{le_trans, le_of_lt, sub-add_cancel, mul-add, mul_assoc, mul_left_comm, mul_comm, add-mul, mul-le-mul_left, mul-le-mul_right, le_of_mul-le-mul_right, div-mul-le_self, mod-add-div', le-div_iff_mul-le, div-le_of_le-mul}
 use native.Mathlib.Omega.{arith}
 use mathlib.Core.Path.{◌≡◌, ap}
 use mathlib.Core.List.{List}
 use Rattle.demand.specs.Code.Demand.{demand_from}
-use Rattle.envelope.specs.declared.LinearSupply.{LinearSupply}
+use Rattle.envelope.specs.declared.supply.LinearSupply.{LinearSupply}
 use Rattle.envelope.specs.declared.Line.{Line}
 use Rattle.envelope.specs.Code.Envelope.{slope_scale, LineIs, CrossingIs}
-
--- the first of two digits of base 2^14
-pub first_digit : (a d : ℕ) → a < d → a * 16384 / d < 16384
-first_digit a d h = (div-lt_iff_lt-mul {k = d} {x = a * 16384} {y = 16384} (omega arith)).1 (omega (arith, mul_comm 16384 d))
 
 -- a quotient in two digits is not above the whole one
 pub two_digits : (a d : ℕ) → 1 ≤ d → a * 16384 / d * 16384 + a * 16384 % d * 16384 / d ≤ slope_scale * a / d

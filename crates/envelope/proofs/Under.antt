@@ -2,7 +2,7 @@
 --   Under fixed slope k == this line, and what those from the place k on ask for, are not above the whole from t on
 -- Assumes nothing.
 use Prim.Native.Nat.{ℕ, suc, ◌+◌, ◌-◌, ◌*◌, ◌/◌, min, ◌≤◌, ◌<◌}
-use native.Mathlib.Nat.{le_refl, mul_comm, mul_assoc, add-mul, zero-mul, mul-le-mul_left, mul-le-mul_right, div-mul-le_self}
+use native.Mathlib.Nat.{le_refl, mul_comm, mul_assoc, add-mul, mul-le-mul_left, mul-le-mul_right, div-mul-le_self}
 use native.Mathlib.Omega.{arith}
 use mathlib.Core.Path.{◌≡◌}
 use mathlib.Core.List.{List}
@@ -11,7 +11,7 @@ use Rattle.least.specs.Round.{ceil_div}
 use Rattle.least.proofs.Round.{ceil_covers, ceil_mono}
 use Rattle.demand.specs.Code.Demand.{demand_from, FineDemand}
 use Rattle.demand.proofs.Demand.{demand_next}
-use Rattle.envelope.specs.Code.Envelope.{slope_scale, LineIs}
+use Rattle.envelope.specs.Code.Envelope.{slope_scale}
 
 -- one task as a slope: it asks for no less
 pub slope_under : (T C v : ℕ) → 1 ≤ T → C * slope_scale / T * v ≤ slope_scale * (ceil_div v T * C)
@@ -32,9 +32,6 @@ module _ (periods costs : List ℕ) (n s t : ℕ) where
   pub record Under (fixed slope k : ℕ) : Type 0 where
     pub under : (v : ℕ) → t ≤ v → slope_scale * fixed + slope * v + slope_scale * demand_from periods costs n k v ≤ slope_scale * demand_from periods costs n s v
     pub slope_most : slope < slope_scale
-
-  pub under_start : Under 0 0 s
-  under_start = record { under = λ v l. omega (arith, zero-mul v); slope_most = omega arith }
 
   -- what is fixed was asked for by t
   pub under_fixed_most : (fixed slope k : ℕ) → Under fixed slope k → fixed + demand_from periods costs n k t ≤ demand_from periods costs n s t
@@ -59,11 +56,3 @@ module _ (periods costs : List ℕ) (n s t : ℕ) where
             let x = get_or costs k 0 * slope_scale / get_or periods k 0 in
             let less : r * v ≤ (slope + x) * v = mul-le-mul_right v (omega arith) in
             omega (arith, u.under v l, demand_next periods costs n k v h, less, add-mul slope x v, slope_under (get_or periods k 0) (get_or costs k 0) v (fine.fine.some k h))
-
-  -- the whole line
-  pub under_end : (fixed slope k : ℕ) → Under fixed slope k → n ≤ k → LineIs periods costs n s t (record { fixed = fixed; slope = slope })
-  under_end fixed slope k u h = record {
-    fixed_most = omega (arith, under_fixed_most fixed slope k u);
-    slope_most = u.slope_most;
-    under = λ v l. omega (arith, u.under v l);
-  }

@@ -1,13 +1,13 @@
 -- Example F: the part of table 1 of document 001, doubled, in a file with a second part that names both of its locks, one of them, or none. Each of its settings
 -- is tried; that a budget passes and the one below does not shows which is least.
 -- Assumes nothing.
+use Rattle.std.specs.Prelude.{Some}
 use Prim.Native.Nat.{ℕ, ◌-◌, ◌+◌}
 use mathlib.Core.Path.{◌≡◌, refl, sym, ap, ap₂, ◌∙◌}
 use mathlib.Core.List.{List, [], ◌∷◌, ◌++◌, map}
 use mathlib.Core.Bool.{Bool, true, false, not, ◌&&◌, false≢true}
 use borrow.Author.Tests.{eqb-true, ltb-true, not-true}
 use lib.Dec.{eqb, ltb}
-use Rattle.least.specs.declared.Least.TheVariants.{At}
 use Rattle.least.specs.Lists.{every, joined, is_empty, nth_or}
 use Rattle.least.proofs.Lists.{and_iff, every_pass, every_fail}
 use Rattle.refusal.specs.Questions.{first_no, when_answered, when_done}
@@ -77,7 +77,7 @@ module _ (v : Partition) where
       let b = (and_iff (eqb (below + 1) t.found.budget) (ltb below v.period && (fails && succeeds))).0 x.1 in
       let l = (and_iff (ltb below v.period) (fails && succeeds)).0 b.1 in
       let f = (and_iff fails succeeds).0 l.1 in
-      let least : least_budget v σ ≡ At (below + 1) = budget_after v σ below (ltb-true below v.period l.0) (not-true (passes v σ below) f.0) f.1 in
+      let least : least_budget v σ ≡ Some (below + 1) = budget_after v σ below (ltb-true below v.period l.0) (not-true (passes v σ below) f.0) f.1 in
       rw (p.0, least) (ap₂ (λ (Q X : ℕ). pair Q X ∷ []) (eqb-true (below + 1) t.found.budget b.0) (eqb-true (holding_time_of v σ) t.found.holding x.0))
 
   right_candidates : (ts : List Tried) → every is_right ts ≡ true → joined (map (candidate_of v) (map setting_of ts)) ≡ map (λ t. t.found) ts

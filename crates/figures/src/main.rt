@@ -2,62 +2,40 @@
 // the answer, then the pairs Q,X. 'stdout' has what the figures of the documents say.
 #![tactic(auto)]
 
-use planner::Kept;
-use refusal::{FILE_LIMIT, PART_LIMIT};
-use std::fs::File;
-use std::io::Read;
-use std::rt::Files;
-use std::{env, io};
-use streams::Reason;
+use planner::{CandidateList, Outcome, Refusal};
+use refusal::PART_LIMIT;
+use std::io;
 
-fn print_pairs(rt: &impl Print, kept: Kept) -> io::Result<()> {
-    for pair in kept.pairs.iter().take(kept.count) {
-        print!(rt; "\t{},{}", pair.budget, pair.holding)?;
-    }
-    Ok(())
-}
-
-// One part; false where the file has no such part.
-fn print_part(rt: &impl Print, name: &str, file: &[u8], part: usize) -> io::Result<bool> {
-    let a = planner::candidates(file, part);
-    let number = planner::number(a.outcome);
-    if number == 12 {
-        return Ok(false);
-    }
+fn print_part(
+    rt: &impl Print,
+    name: &str,
+    file: &[u8],
+    part: usize,
+    answer: &CandidateList,
+) -> io::Result<()> {
     print!(rt; "{name}\t{part}\t")?;
     rt.write_all(planner::name(file, part))?;
-    let place = planner::place(a.outcome);
+    let number = planner::number(answer.outcome);
+    let place = planner::place(answer.outcome);
     print!(rt; "\t{number}\t{place}")?;
-    print_pairs(rt, a.kept)?;
-    println!(rt)?;
-    Ok(true)
+    for pair in answer.kept.pairs.iter().take(answer.kept.count) {
+        print!(rt; "\t{},{}", pair.budget, pair.holding)?;
+    }
+    println!(rt)
 }
 
+// The parts up to the first number that the file has no part of.
 fn print_parts(rt: &impl Print, name: &str, file: &[u8]) -> io::Result<()> {
     for part in 1..=PART_LIMIT {
-        if !print_part(rt, name, file, part)? {
-            return Ok(());
+        let answer = planner::candidates(file, part);
+        if matches!(answer.outcome, Outcome::Refused(Refusal::BadHandSet(_))) {
+            break;
         }
+        print_part(rt, name, file, part, &answer)?;
     }
     Ok(())
-}
-
-fn print_file(rt: &impl Print, name: &str, input: &mut impl Read) -> io::Result<()> {
-    let mut file = [0u8; FILE_LIMIT + 1];
-    let n = streams::read_full(input, &mut file);
-    print_parts(rt, name, &file[..n])
-}
-
-fn each(rt: &(impl Files + Print + Eprint), path: &str) -> io::Result<()> {
-    match File::open(rt, path) {
-        Ok(mut file) => print_file(rt, path, &mut file),
-        Err(e) => eprintln!(rt; "{path}: {}", Reason(&e)),
-    }
 }
 
 fn main(rt: HostRuntime) -> io::Result<()> {
-    for path in env::args(&rt)?.skip(1) {
-        each(&rt, path.as_str())?;
-    }
-    Ok(())
+    streams::each_file(&rt, &mut |name, file| print_parts(&rt, name, file))
 }

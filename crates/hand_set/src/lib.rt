@@ -1,12 +1,11 @@
 // The operations over numbers set by hand: the supply of a budget, and the weight of a lent list of rows.
 #![tactic(auto)]
 
-ghost use Rattle.std.specs.Prelude.{◌≡◌, ◌&&◌, [], min, ◌<◌, leb};
+ghost use Rattle.std.specs.Prelude.{◌≡◌, ◌&&◌, min, leb, length, take};
 ghost use Rattle.refusal.specs.Limits.{number_limit, row_limit};
 ghost use Rattle.load.specs.Weigh.{weigh_of};
 ghost use Rattle.load.specs.Code.Weigh.{rows_from};
 ghost use Rattle.answers.specs.Answers.{supply_answer, supplied};
-ghost use Rattle.hand_set.specs.Code.Gathered.{with_row};
 
 use answers::Supplied;
 use load::{Row, Rows, Weighed};
@@ -16,16 +15,7 @@ use refusal::{NUMBER_LIMIT, Outcome, ROW_LIMIT, Refusal};
 fn is_in_range(p: u64, q: u64, t: u64) -> bool
     ensures { result ≡ (leb 1 q && leb q p) && (leb p number_limit && leb t number_limit) }
 {
-    if q < 1 {
-        return false;
-    }
-    if p < q {
-        return false;
-    }
-    if NUMBER_LIMIT < p {
-        return false;
-    }
-    t <= NUMBER_LIMIT
+    1 <= q && q <= p && p <= NUMBER_LIMIT && t <= NUMBER_LIMIT
 }
 
 // The supply of a budget of q in every p ticks in t ticks: question 12.
@@ -33,60 +23,39 @@ pub fn supply(p: u64, q: u64, t: u64) -> Supplied
     ensures { result ≡ supplied (supply_answer p q t) }
 {
     if is_in_range(p, q, t) {
-        return Supplied {
+        Supplied {
             outcome: Outcome::Done,
             ticks: supply::supply(p, q, t),
-        };
-    }
-    Supplied {
-        outcome: Outcome::Refused(Refusal::BadHandSet(0)),
-        ticks: 0,
+        }
+    } else {
+        Supplied {
+            outcome: Outcome::Refused(Refusal::BadHandSet(0)),
+            ticks: 0,
+        }
     }
 }
 
-// The struct for n rows, before any of them is put in.
-fn no_rows(n: usize) -> Rows
-    ensures { result ≡ rows_from [] n }
+// The first sixteen of these rows, with the count of all.
+fn first_rows(rows: &[Row]) -> Rows
+    ensures { result ≡ rows_from (take (min (length rows.now) row_limit) rows.now) (length rows.now) }
 {
+    let places = rows.len().min(ROW_LIMIT);
+    let mut first = [Row {
+        period: 0,
+        budget: 0,
+        holding: 0,
+    }; ROW_LIMIT];
+    first[..places].copy_from_slice(&rows[..places]);
     Rows {
-        rows: [Row {
-            period: 0,
-            budget: 0,
-            holding: 0,
-        }; ROW_LIMIT],
-        count: n,
+        rows: first,
+        count: rows.len(),
     }
-}
-
-// How many of n rows have a place in the struct.
-fn places(n: usize) -> usize
-    ensures { result ≡ min n row_limit }
-{
-    if n < ROW_LIMIT {
-        return n;
-    }
-    ROW_LIMIT
-}
-
-// Puts this row into the struct, at the place i.
-fn with_row(all: &mut Rows, i: usize, row: Row)
-    requires { i < row_limit }
-    ensures { all.new ≡ with_row all.old i row }
-{
-    all.rows[i] = row;
 }
 
 // Weighs a lent list of rows, of any length. Only the first sixteen are copied: more are refused by their count.
+// Kept: beside `load::weigh`, as `planner_weigh_slice` is lent a list from C.
 pub fn weigh_slice(rows: &[Row]) -> Weighed
     ensures { result ≡ weigh_of rows.now }
 {
-    let n = rows.len();
-    let end = places(n);
-    let mut all = no_rows(n);
-    let mut i = 0;
-    while i < end {
-        with_row(&mut all, i, rows[i]);
-        i += 1;
-    }
-    load::weigh(all)
+    first_rows(rows).weigh()
 }

@@ -1,5 +1,6 @@
 -- A lock with a higher ceiling is held no longer; so a setting with higher ceilings has an X that is no greater.
 -- Assumes nothing.
+use Rattle.std.specs.Prelude.{Some}
 use Prim.Native.Nat.{ℕ, zero, suc, ◌≤◌, ◌<◌}
 use native.Mathlib.Nat.{le_refl, le_trans, le_of_eq, eq-or-lt_of_le, le_of_suc-le-suc}
 use native.Mathlib.Omega.{arith}
@@ -7,7 +8,6 @@ use mathlib.Core.Path.{◌≡◌, refl, sym, ap, ◌∙◌}
 use mathlib.Core.Bool.{Bool, true, false}
 use mathlib.Core.Logic.{◌⊎◌, inl, inr}
 use mathlib.Core.List.{List, Memᴰ}
-use Rattle.least.specs.declared.Least.TheVariants.{At}
 use Rattle.least.specs.Search.{number_or0}
 use Rattle.least.proofs.Search.{least_upto}
 use Rattle.least.proofs.Greatest.{greatest_mono}
@@ -31,7 +31,7 @@ demand_above ts r (suc r') w l = go (λ h. demand_above ts r r' w h) (eq-or-lt_o
 pub held_above : (ts : List Task) (l r r' w : ℕ) → r ≤ r' → held ts l r w ≡ true → held ts l r' w ≡ true
 held_above ts l r r' w h t = (held_paper ts l r' w).1 (omega (arith, demand_above ts r r' w h, (held_paper ts l r w).0 t))
 
-pub holding_falls : (ts : List Task) (l r r' w : ℕ) → r ≤ r' → holding_of ts l r ≡ At w → (w' : ℕ) × (holding_of ts l r' ≡ At w') × (w' ≤ w)
+pub holding_falls : (ts : List Task) (l r r' w : ℕ) → r ≤ r' → holding_of ts l r ≡ Some w → (w' : ℕ) × (holding_of ts l r' ≡ Some w') × (w' ≤ w)
 unfolding holding_of
 holding_falls ts l r r' w h e =
     let p = (holding_paper ts l r w).0 e in
@@ -39,10 +39,10 @@ holding_falls ts l r r' w h e =
     (f.0, f.2, f.3)
 
 -- the same of the time that counts
-pub counted_falls : (v : Partition) (l r r' w : ℕ) → r ≤ r' → counted_time v l r ≡ At w → (w' : ℕ) × (counted_time v l r' ≡ At w') × (w' ≤ w)
+pub counted_falls : (v : Partition) (l r r' w : ℕ) → r ≤ r' → counted_time v l r ≡ Some w → (w' : ℕ) × (counted_time v l r' ≡ Some w') × (w' ≤ w)
 counted_falls v l r r' w h e = go (is_shared v l) refl
   where
-    go : (s : Bool) → is_shared v l ≡ s → (w' : ℕ) × (counted_time v l r' ≡ At w') × (w' ≤ w)
+    go : (s : Bool) → is_shared v l ≡ s → (w' : ℕ) × (counted_time v l r' ≡ Some w') × (w' ≤ w)
     go true s = let f = holding_falls v.tasks l r r' w h (sym (counted_shared v l r s) ∙ e) in (f.0, counted_shared v l r' s ∙ f.1, f.2)
     go false s = (0, counted_private v l r' s, omega arith)
 

@@ -1,6 +1,7 @@
 -- Holding times, permitted settings and X in the paper's words: the search up to the smallest deadline finds the holding time w if it is
 -- at most that deadline, and nothing else.
 -- Assumes nothing.
+use Rattle.std.specs.Prelude.{Option, Some, None}
 use Prim.Native.Nat.{ℕ, ◌+◌, ◌≤◌}
 use native.Mathlib.Nat.{le_of_eq}
 use native.Mathlib.Omega.{arith}
@@ -12,8 +13,6 @@ use mathlib.Core.List.{List, map, Memᴰ}
 use lib.Dec.{leb}
 use lib.ListN.{length}
 use borrow.Author.Tests.{leb-true, le-leb}
-use Rattle.least.specs.declared.Least.{Least}
-use Rattle.least.specs.declared.Least.TheVariants.{At, Nothing}
 use Rattle.least.specs.Search.{number_or0}
 use Rattle.least.specs.Lists.{greatest, range, those}
 use Rattle.least.proofs.Search.{least_iff}
@@ -88,14 +87,14 @@ module _ (v : Partition) (l : ℕ) where
 pub private_lowest : (v : Partition) (σ : Setting) → Ranged v σ → (l : ℕ) → 1 ≤ l → l ≤ v.locks → is_shared v l ≡ false → σ l ≡ lowest_ceiling l v.tasks
 private_lowest v σ ranged l a b e = let r = ranged l a b in omega (arith, r.0, r.1, highest_private v l e)
 
-pub holding_paper : (ts : List Task) (l r w : ℕ) → (holding_of ts l r ≡ At w) ↔ (HoldingTime ts l r w × (w ≤ smallest_deadline l ts))
+pub holding_paper : (ts : List Task) (l r w : ℕ) → (holding_of ts l r ≡ Some w) ↔ (HoldingTime ts l r w × (w ≤ smallest_deadline l ts))
 unfolding holding_of
 holding_paper ts l r w = least_iff (held ts l r) (smallest_deadline l ts) w
 
-exists_iff : (a : Least) → (exists a ≡ true) ↔ ((w : ℕ) × (a ≡ At w))
+exists_iff : (a : Option ℕ) → (exists a ≡ true) ↔ ((w : ℕ) × (a ≡ Some w))
 unfolding exists
-exists_iff (At w) = ((λ e. (w, refl)), λ h. refl)
-exists_iff Nothing = ((λ e. absurd (false≢true e)), λ h. let z : ◌≡◌ {A = ℕ} 0 1 = cc h.1 in absurd (omega arith))
+exists_iff (Some w) = ((λ e. (w, refl)), λ h. refl)
+exists_iff None = ((λ e. absurd (false≢true e)), λ h. let z : ◌≡◌ {A = ℕ} 0 1 = cc h.1 in absurd (omega arith))
 
 -- lock l at r has a holding time that is at most the smallest deadline
 abbrev pub InTime : List Task → ℕ → ℕ → Type 0
@@ -111,15 +110,15 @@ in_time ts l r = (to, from)
     from h = (exists_iff (holding_of ts l r)).1 (h.0, (holding_paper ts l r h.0).1 (h.1, h.2))
 
 -- the time that counts of lock l at r: a shared lock's holding time, 0 for a private one
-unfoldable pub counted_time : Partition → ℕ → ℕ → Least
-counted_time v l r = cond (is_shared v l) (holding_of v.tasks l r) (At 0)
+unfoldable pub counted_time : Partition → ℕ → ℕ → Option ℕ
+counted_time v l r = cond (is_shared v l) (holding_of v.tasks l r) (Some 0)
 
 module _ (v : Partition) (l r : ℕ) where
   pub counted_shared : is_shared v l ≡ true → counted_time v l r ≡ holding_of v.tasks l r
   unfolding counted_time
   counted_shared e = simp e
 
-  pub counted_private : is_shared v l ≡ false → counted_time v l r ≡ At 0
+  pub counted_private : is_shared v l ≡ false → counted_time v l r ≡ Some 0
   unfolding counted_time
   counted_private e = simp e
 
@@ -142,17 +141,17 @@ permitted_paper v σ = (
 )
 
 -- each lock has a time that counts
-pub permitted_times : (v : Partition) (σ : Setting) → (permitted v σ ≡ true) ↔ ((l : ℕ) → 1 ≤ l → l ≤ v.locks → (w : ℕ) × (counted_time v l (σ l) ≡ At w))
+pub permitted_times : (v : Partition) (σ : Setting) → (permitted v σ ≡ true) ↔ ((l : ℕ) → 1 ≤ l → l ≤ v.locks → (w : ℕ) × (counted_time v l (σ l) ≡ Some w))
 permitted_times v σ = (to, λ h. (permitted_paper v σ).1 (from h))
   where
-    to : permitted v σ ≡ true → (l : ℕ) → 1 ≤ l → l ≤ v.locks → (w : ℕ) × (counted_time v l (σ l) ≡ At w)
+    to : permitted v σ ≡ true → (l : ℕ) → 1 ≤ l → l ≤ v.locks → (w : ℕ) × (counted_time v l (σ l) ≡ Some w)
     to e l a b = go (is_shared v l) refl
       where
-        go : (s : Bool) → is_shared v l ≡ s → (w : ℕ) × (counted_time v l (σ l) ≡ At w)
+        go : (s : Bool) → is_shared v l ≡ s → (w : ℕ) × (counted_time v l (σ l) ≡ Some w)
         go true s = let t = (permitted_paper v σ).0 e l a b s in (t.0, counted_shared v l (σ l) s ∙ (holding_paper v.tasks l (σ l) t.0).1 (t.1, t.2))
         go false s = (0, counted_private v l (σ l) s)
 
-    from : ((l : ℕ) → 1 ≤ l → l ≤ v.locks → (w : ℕ) × (counted_time v l (σ l) ≡ At w)) → (l : ℕ) → 1 ≤ l → l ≤ v.locks → is_shared v l ≡ true → InTime v.tasks l (σ l)
+    from : ((l : ℕ) → 1 ≤ l → l ≤ v.locks → (w : ℕ) × (counted_time v l (σ l) ≡ Some w)) → (l : ℕ) → 1 ≤ l → l ≤ v.locks → is_shared v l ≡ true → InTime v.tasks l (σ l)
     from h l a b s =
         let t = h l a b in
         let k = (holding_paper v.tasks l (σ l) t.0).0 (sym (counted_shared v l (σ l) s) ∙ t.1) in
@@ -186,11 +185,11 @@ holding_time_counted v σ =
 
 -- X is the greatest time that counts, or 0 without any
 pub record IsGreatest (v : Partition) (σ : Setting) (X : ℕ) : Type 0 where
-  pub each : (l w : ℕ) → 1 ≤ l → l ≤ v.locks → counted_time v l (σ l) ≡ At w → w ≤ X
-  pub one : (X ≡ 0) ⊎ ((l : ℕ) × (1 ≤ l) × (l ≤ v.locks) × (counted_time v l (σ l) ≡ At X))
+  pub each : (l w : ℕ) → 1 ≤ l → l ≤ v.locks → counted_time v l (σ l) ≡ Some w → w ≤ X
+  pub one : (X ≡ 0) ⊎ ((l : ℕ) × (1 ≤ l) × (l ≤ v.locks) × (counted_time v l (σ l) ≡ Some X))
 
 module _ (v : Partition) (σ : Setting) (ok : permitted v σ ≡ true) where
-  holding_time_each : (l w : ℕ) → 1 ≤ l → l ≤ v.locks → counted_time v l (σ l) ≡ At w → w ≤ holding_time_of v σ
+  holding_time_each : (l w : ℕ) → 1 ≤ l → l ≤ v.locks → counted_time v l (σ l) ≡ Some w → w ≤ holding_time_of v σ
   unfolding holding_time_of number_or0
   holding_time_each l w a b h = go (is_shared v l) refl
     where
@@ -200,7 +199,7 @@ module _ (v : Partition) (σ : Setting) (ok : permitted v σ ≡ true) where
       go false s = let z : 0 ≡ w = cc (counted_private v l (σ l) s, h) in omega arith
 
   abbrev OneOrNone : Type 0
-  OneOrNone = (holding_time_of v σ ≡ 0) ⊎ ((l : ℕ) × (1 ≤ l) × (l ≤ v.locks) × (counted_time v l (σ l) ≡ At (holding_time_of v σ)))
+  OneOrNone = (holding_time_of v σ ≡ 0) ⊎ ((l : ℕ) × (1 ≤ l) × (l ≤ v.locks) × (counted_time v l (σ l) ≡ Some (holding_time_of v σ)))
 
   holding_time_one : OneOrNone
   unfolding holding_time_of number_or0
@@ -212,7 +211,7 @@ module _ (v : Partition) (σ : Setting) (ok : permitted v σ ≡ true) where
           let k = (shared_iff v r.0).0 r.1 in
           let t = (permitted_paper v σ).0 ok r.0 k.0 k.1 k.2 in
           let e = (holding_paper v.tasks r.0 (σ r.0) t.0).1 (t.1, t.2) in
-          inr (r.0, k.0, k.1, counted_shared v r.0 (σ r.0) k.2 ∙ e ∙ ap At (sym (ap number_or0 e) ∙ sym r.2))
+          inr (r.0, k.0, k.1, counted_shared v r.0 (σ r.0) k.2 ∙ e ∙ ap Some (sym (ap number_or0 e) ∙ sym r.2))
 
   pub holding_time_paper : IsGreatest v σ (holding_time_of v σ)
   holding_time_paper = record { each = holding_time_each; one = holding_time_one }

@@ -1,26 +1,22 @@
 -- The search for a lock's ceiling, ceiling by ceiling; and what it tells of another lock: one whose longest use is no smaller is held no shorter.
 -- Assumes nothing.
+use Rattle.std.specs.Prelude.{Some, None}
 use Prim.Native.Nat.{ℕ, ◌+◌, min, max, ◌≤◌, ◌<◌}
 use native.Mathlib.Omega.{arith}
 use native.Mathlib.Decide.{dec_lt}
-use mathlib.Core.Path.{◌≡◌, sym, ap, ◌∙◌, subst}
+use mathlib.Core.Path.{◌≡◌, sym, ap, ◌∙◌}
 use mathlib.Core.Bool.{false}
 use mathlib.Core.List.{List}
 use lib.Dec.{leb}
 use lib.ListN.{length}
 use borrow.Author.Tests.{leb-false, lt-leb}
-use Rattle.least.specs.declared.Least.TheVariants.{At, Nothing}
 use Rattle.least.proofs.Search.{NoneIn, none_iff, least_found}
-use Rattle.least.proofs.Iterate.{Unsolved, start_unsolved}
+use Rattle.least.proofs.Iterate.{start_unsolved}
 use Rattle.task_set.specs.declared.Task.{Task}
 use Rattle.task_set.specs.Tasks.{higher, demand_in}
-use Rattle.holding.specs.declared.Ceiling.TheVariants.{Held, NotHeld}
 use Rattle.holding.specs.Code.Search.{hold_up_to, NoneHeld, SearchedTo, lowest_held}
 use Rattle.holding.proofs.Iteration.{hold_need, need_from}
 use Rattle.holding.proofs.Within.{held_within, missed_within_both, ceiling_found, ceiling_missed}
-
-pub none_unsolved : (ts : List Task) (g r s : ℕ) → NoneHeld ts g r s → Unsolved (hold_need ts g r) s
-none_unsolved ts g r s none v l h = leb-false _ v (none v l h)
 
 -- no holding time is less than the longest use
 none_below : (ts : List Task) (g r : ℕ) → NoneHeld ts g r g
@@ -31,7 +27,7 @@ module _ (ts : List Task) (g g' : ℕ) (u : g ≤ g') where
   none_longer : (r s : ℕ) → NoneHeld ts g r s → NoneHeld ts g' r s
   none_longer r s none w l h = lt-leb _ w (omega (arith, leb-false _ w (none w l h)))
 
-  missed_longer : (r most most' : ℕ) → most' ≤ most → hold_up_to ts g r most ≡ Nothing → hold_up_to ts g' r most' ≡ Nothing
+  missed_longer : (r most most' : ℕ) → most' ≤ most → hold_up_to ts g r most ≡ None → hold_up_to ts g' r most' ≡ None
   unfolding hold_up_to
   missed_longer r most most' d q =
       (none_iff _ most').1 (λ v p h. none_longer r (most + 1) (λ w l k. (none_iff _ most).0 q w l (omega arith)) v p (omega arith))
@@ -45,9 +41,6 @@ module _ (ts : List Task) (g g' : ℕ) (u : g ≤ g') where
 
 -- the search of one lock
 module _ (ts : List Task) (g most r : ℕ) where
-  pub searched_start : 1 ≤ g → SearchedTo ts g most r r g
-  searched_start p = record { missed = λ k l h. absurd (omega arith); some = p; none = none_below ts g r }
-
   pub searched_larger : (c w : ℕ) → SearchedTo ts g most r c w → SearchedTo ts g most r c (max g w)
   searched_larger c w s = record { missed = s.missed; some = omega (arith, s.some); none = λ v l h. at v l h (dec_lt v w) }
     where
@@ -55,18 +48,7 @@ module _ (ts : List Task) (g most r : ℕ) where
       at v l h (yes d) = s.none v l d
       at v l h (no d) = none_below ts g c v l (omega arith)
 
-  pub searched_next : (c w : ℕ) → 1 ≤ g → SearchedTo ts g most r c w → hold_up_to ts g c most ≡ Nothing → SearchedTo ts g most r (c + 1) g
-  searched_next c w p s q = record {
-    missed = λ k l h. at k l (omega arith) (dec_lt k c);
-    some = p;
-    none = none_below ts g (c + 1);
-  }
-    where
-      at : (k : ℕ) → r ≤ k → k ≤ c → Dec (k < c) → hold_up_to ts g k most ≡ Nothing
-      at k l h (yes d) = s.missed k l d
-      at k l h (no d) = let e : c ≡ k = omega arith in subst (λ (i : ℕ). hold_up_to ts g i most ≡ Nothing) e q
-
-  pub searched_found : (c v w : ℕ) → SearchedTo ts g most r c v → hold_up_to ts g c most ≡ At w → SearchedTo ts g most r c w
+  pub searched_found : (c v w : ℕ) → SearchedTo ts g most r c v → hold_up_to ts g c most ≡ Some w → SearchedTo ts g most r c w
   unfolding hold_up_to
   searched_found c v w s q =
       let l = least_found _ most 1 w q in
@@ -78,8 +60,8 @@ module _ (ts : List Task) (g limit x most r c w : ℕ) (m : most ≡ min limit x
   unfolding hold_up_to
   searched_none v l h = missed_within_both _ limit x (ap (hold_up_to ts g v) (sym m) ∙ s.missed v l h)
 
-  pub searched_held : (v : ℕ) → r ≤ c → c ≤ length ts → hold_up_to ts g c most ≡ At v → lowest_held ts g limit x r ≡ Held c v
+  pub searched_held : (v : ℕ) → r ≤ c → c ≤ length ts → hold_up_to ts g c most ≡ Some v → lowest_held ts g limit x r ≡ Some (record { ceiling = c; time = v })
   searched_held v l h q = ceiling_found ts g limit x r c v searched_none l h (ap (hold_up_to ts g c) (sym m) ∙ q)
 
-  pub searched_out : length ts < c → lowest_held ts g limit x r ≡ NotHeld
+  pub searched_out : length ts < c → lowest_held ts g limit x r ≡ None
   searched_out h = ceiling_missed ts g limit x r c searched_none h

@@ -8,9 +8,7 @@
 --   holding_time_of v σ == X: the greatest w of a shared lock, or 0 without shared locks; a private lock has no holding time
 -- The search for w ends at that deadline; the law `holding_paper` says what it finds without it.
 -- Assumes nothing.
-use Rattle.std.specs.Prelude.{ℕ, ◌+◌, Bool, true, false, cond, ◌&&◌, List, map, leb, length}
-use Rattle.least.specs.declared.Least.{Least}
-use Rattle.least.specs.declared.Least.TheVariants.{At, Nothing}
+use Rattle.std.specs.Prelude.{ℕ, ◌+◌, Bool, true, false, cond, ◌&&◌, List, map, leb, length, Option, Some, None}
 use Rattle.least.specs.Search.{least_up_to, number_or0}
 use Rattle.least.specs.Lists.{greatest, range, every}
 use Rattle.task_set.specs.declared.Task.{Task}
@@ -21,12 +19,12 @@ use Rattle.task_set.specs.Blocking.{Setting}
 unfoldable pub held : List Task → ℕ → ℕ → ℕ → Bool
 held ts l r w = leb (greatest_held l ts + demand_in (higher r ts) w) w
 
-unfoldable pub holding_of : List Task → ℕ → ℕ → Least
+unfoldable pub holding_of : List Task → ℕ → ℕ → Option ℕ
 holding_of ts l r = least_up_to (held ts l r) (smallest_deadline l ts)
 
-abbrev pub within : ℕ → Least → Bool
-within x (At w) = leb w x
-within x Nothing = false
+abbrev pub within : ℕ → Option ℕ → Bool
+within x (Some w) = leb w x
+within x None = false
 
 unfoldable pub highest_ceiling : Partition → ℕ → ℕ
 highest_ceiling v l = cond (is_shared v l) (length v.tasks) (lowest_ceiling l v.tasks)
@@ -34,9 +32,9 @@ highest_ceiling v l = cond (is_shared v l) (length v.tasks) (lowest_ceiling l v.
 unfoldable pub in_range : Partition → Setting → Bool
 in_range v σ = every (λ l. leb (lowest_ceiling l v.tasks) (σ l) && leb (σ l) (highest_ceiling v l)) (range 1 v.locks)
 
-unfoldable pub exists : Least → Bool
-exists (At w) = true
-exists Nothing = false
+unfoldable pub exists : Option ℕ → Bool
+exists (Some w) = true
+exists None = false
 
 unfoldable pub permitted : Partition → Setting → Bool
 permitted v σ = every (λ l. exists (holding_of v.tasks l (σ l))) (shared_locks v)

@@ -9,7 +9,6 @@ use lib.ListN.{length, get_or}
 use Rattle.least.proofs.Lists.{empty_none, some_filled}
 use Rattle.refusal.specs.declared.Refusal.{Refusal}
 use Rattle.refusal.specs.declared.Refusal.TheVariants.{BadHandSet, NoBudget}
-use Rattle.refusal.specs.declared.Outcome.TheVariants.{Done}
 use Rattle.refusal.specs.Questions.{when_answered, when_done, first_no}
 use Rattle.refusal.specs.Questions.Answer.{answered, refused}
 use Rattle.task_set.specs.Code.Partition.{partition_of}
@@ -19,7 +18,7 @@ use Rattle.plan_file.specs.Numbers.{PlanPart, parts_of}
 use Rattle.reader.specs.declared.PartRead.{PartRead}
 use Rattle.reader.specs.declared.PlanFile.{PlanFile}
 use Rattle.reader.specs.Code.Reader.{part_of, parts_in, ReadIs}
-use Rattle.reader.proofs.Handed.{handed_done, part_number}
+use Rattle.reader.proofs.Handed.{part_number}
 use Rattle.answers.specs.Answers.{kept_at, candidates_of}
 use Rattle.inquiries.proofs.Named.{number_is}
 
@@ -27,10 +26,10 @@ pub candidates_refused : (s : List ℕ) (k : ℕ) (r : Refusal) → parts_of s �
 unfolding candidates_of when_answered
 candidates_refused s k r e = rw e refl
 
-module _ (s : List ℕ) (k : ℕ) (f : PlanFile) (is : ReadIs s f) (done : f.outcome ≡ Done) where
+module _ (s : List ℕ) (k : ℕ) (f : PlanFile) (is : ReadIs s f) where
   pub candidates_not_given : leb 1 k && leb k f.count ≡ false → candidates_of s k ≡ refused (BadHandSet 0)
   unfolding candidates_of when_answered when_done first_no
-  candidates_not_given e = rw (handed_done s f is done) (simp (number_is s k f is ∙ e))
+  candidates_not_given e = rw is.value (simp (number_is s k f is ∙ e))
 
   module _ (d : PartRead) (given : leb 1 k && leb k f.count ≡ true) (a : 1 ≤ k) (b : k ≤ f.count) where
     -- the list that the answer speaks of
@@ -43,8 +42,8 @@ module _ (s : List ℕ) (k : ℕ) (f : PlanFile) (is : ReadIs s f) (done : f.out
 
     pub candidates_none : length list ≡ 0 → candidates_of s k ≡ refused (NoBudget k)
     unfolding candidates_of when_answered when_done first_no
-    candidates_none e = rw (handed_done s f is done) (simp (number_is s k f is ∙ given, list_is, empty_none list e))
+    candidates_none e = rw is.value (simp (number_is s k f is ∙ given, list_is, empty_none list e))
 
     pub candidates_given : 1 ≤ length list → candidates_of s k ≡ answered list
     unfolding candidates_of when_answered when_done first_no
-    candidates_given e = rw (handed_done s f is done) (simp (number_is s k f is ∙ given, list_is, some_filled list e))
+    candidates_given e = rw is.value (simp (number_is s k f is ∙ given, list_is, some_filled list e))

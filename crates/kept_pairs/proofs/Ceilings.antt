@@ -2,6 +2,7 @@
 -- has to wait for 2a more ticks than it asks for, and the highest task that is blocked, which has m tasks above it, can wait for 4m. For m = n − 1 none is blocked,
 -- and the lowest task decides.
 -- Assumes nothing.
+use Rattle.std.specs.Prelude.{Some}
 use Prim.Native.Nat.{ℕ, zero, suc, ◌+◌, ◌-◌, ◌*◌, ◌≤◌, ◌<◌}
 use native.Mathlib.Nat.{le_refl, mul-le-mul_right}
 use native.Mathlib.Omega.{arith}
@@ -11,7 +12,6 @@ use mathlib.Core.Bool.{true}
 use mathlib.Core.Logic.{⊎_elim}
 use mathlib.Core.List.{List, Memᴰ}
 use lib.ListN.{length}
-use Rattle.least.specs.declared.Least.TheVariants.{At}
 use Rattle.least.specs.Search.{number_or0}
 use Rattle.least.specs.Round.{ceil_div}
 use Rattle.least.specs.Lists.{greatest, count_from, range, nth_or, those}
@@ -62,7 +62,7 @@ module _ (n : ℕ) (some : 1 ≤ n) where
     above_demand : (w : ℕ) → 1 ≤ w → w ≤ 9 * n → demand_in (higher r (stair_tasks n)) w ≡ m
     above_demand w a b = rw (above_ceiling n some r m low is) (lights_demand n m w a b)
 
-    pub stairs_holding : holding_of (stair_tasks n) 1 r ≡ At (4 * n + m)
+    pub stairs_holding : holding_of (stair_tasks n) 1 r ≡ Some (4 * n + m)
     stairs_holding = (holding_paper (stair_tasks n) 1 r (4 * n + m)).1 (
       record { positive = omega arith; passes = (held_paper (stair_tasks n) 1 r (4 * n + m)).1 holds; first = first },
       omega (arith, deadline_smallest n some),
@@ -165,7 +165,7 @@ module _ (n : ℕ) (some : 1 ≤ n) where
     place_asks Q a u (suc k) e t =
         omega (arith, light_asks Q a u (blocked σ (suc k)) (n - suc (suc k)) (omega arith) (blocking_least σ (suc k) (omega arith) (omega arith) (omega arith)) (rw (light_at σ Q k (omega arith)) at t))
 
-    pub stairs_budget : least_budget (stairs n) σ ≡ At (8 * n - 2 * m)
+    pub stairs_budget : least_budget (stairs n) σ ≡ Some (8 * n - 2 * m)
     stairs_budget = (budget_iff (stairs n) σ (8 * n - 2 * m)).1 (
       record {
         positive = omega arith;

@@ -2,6 +2,7 @@
 --   step n m  == the pair of the ceiling n − m: the budget 8n − 2m with X = 4n + m
 --   steps n k == these pairs from m = k − 1 down to m = 0
 -- Assumes nothing.
+use Rattle.std.specs.Prelude.{Option, Some}
 use Prim.Native.Nat.{ℕ, zero, suc, ◌+◌, ◌-◌, ◌*◌, ◌≤◌, ◌<◌}
 use native.Mathlib.Nat.{le_refl, eq-or-lt_of_le}
 use native.Mathlib.Omega.{arith}
@@ -10,8 +11,6 @@ use mathlib.Core.Bool.{true}
 use mathlib.Core.Logic.{◌⊎◌, inl, inr, ◌↔◌}
 use mathlib.Core.List.{List, [], ◌∷◌, Memᴰ}
 use lib.ListN.{length}
-use Rattle.least.specs.declared.Least.{Least}
-use Rattle.least.specs.declared.Least.TheVariants.{At}
 use Rattle.least.specs.Lists.{nth_or}
 use Rattle.least.proofs.Pairwise.{Pairwise}
 use Rattle.task_set.specs.Partition.{Partition, is_shared}
@@ -26,7 +25,7 @@ use Rattle.candidates.proofs.Walk.{Behind, kept_criterion}
 use Rattle.kept_pairs.proofs.Family.{stairs, stairs_length, ceiling_lowest}
 use Rattle.kept_pairs.proofs.Ceilings.{stairs_budget, stairs_permitted, stairs_time}
 
-at_same : (a b : ℕ) → ◌≡◌ {A = Least} (At a) (At b) → a ≡ b
+at_same : (a b : ℕ) → ◌≡◌ {A = Option ℕ} (Some a) (Some b) → a ≡ b
 at_same a b e = cc
 
 -- the pairs

@@ -5,6 +5,7 @@
 use Prim.Native.Nat.{ℕ, zero, suc, ◌+◌, ◌-◌, ◌*◌, ◌/◌, ◌%◌, ◌≤◌, ◌<◌}
 use native.Mathlib.Nat.{add-zero, add-suc, zero-add, div-add-mod', mod-lt, mul-add-mod_self_right, mod-eq_of_lt}
 use native.Mathlib.Omega.{arith}
+use native.Mathlib.Numerals.{add-one}
 use mathlib.Core.Path.{◌≡◌, refl, sym, ap, ap₂, ◌∙◌}
 use mathlib.Core.Logic.{inr}
 use mathlib.Core.Bool.{Bool, true, false, cond, not, ◌&&◌}
@@ -107,8 +108,8 @@ module _ (r : Row) (rs : List Row) (k : ℕ) (some : 1 ≤ r.period) (bytes : Li
       placed_in (y / P) (y % P) (mod-lt y some) (omega (arith, e)) ∙ ap (λ (z : ℕ). numbered k (holder_at (r ∷ rs) z)) e
 
 -- every tick is free, as no part is above the last
-pub laid_start : (rows : List Row) (k : ℕ) (before after : List ℕ) → length rows ≡ k → Stored (λ y. 0) 0 cycle before after → LaidFrom rows k after after
-laid_start rows k before after e s = record { each = λ y l. s.each y l ∙ sym (none y); others = λ j u. refl; room = refl }
+pub laid_start : (rows : List Row) (k : ℕ) (bytes : List ℕ) → length rows ≡ k → ((y : ℕ) → y < cycle → get_or bytes y 0 ≡ 0) → LaidFrom rows k bytes bytes
+laid_start rows k bytes e free = record { each = λ y l. rw zero-add (free y l ∙ sym (none y)); others = λ j u. refl; room = refl }
   where
     none : (y : ℕ) → numbered k (holder_at (drop k rows) y) ≡ 0
     none y = ap (λ (b : Bool). cond b (k + holder_at (drop k rows) y) 0) (ap (λ (rs : List Row). taken rs y) (drop_of_length-le rows {i = k} (omega arith)) ∙ taken_none y)
@@ -125,12 +126,12 @@ module _ (rows : List Row) (k : ℕ) (before after next : List ℕ) (l : k < len
     room = p.room ∙ s.room;
   }
 
-pub laid_below : (rows : List Row) (k : ℕ) (before after next : List ℕ) → 1 ≤ k → k ≤ length rows → 1 ≤ (get_or rows (k - 1) no_row).period → LaidFrom rows k before after
-    → Placed (get_or rows (k - 1) no_row).period (get_or rows (k - 1) no_row).budget k after next → LaidFrom rows (k - 1) before next
+pub laid_below : (rows : List Row) (k : ℕ) (before after next : List ℕ) → 0 < k → k ≤ length rows → 1 ≤ (get_or rows (k - 1) no_row).period → LaidFrom rows k before after
+    → Placed (get_or rows (k - 1) no_row).period (get_or rows (k - 1) no_row).budget (k - 1 + 1) after next → LaidFrom rows (k - 1) before next
 laid_below rows zero before after next a l some s p = absurd (omega arith)
 laid_below rows (suc k) before after next a l some s p =
     let e : suc k - 1 ≡ k = omega arith in
-    rw e (laid_next rows k before after next l (rw e at some) s (rw e at p))
+    rw e (laid_next rows k before after next l (rw e at some) s (rw (e, add-one k) at p))
 
 -- the bytes behind a cycle are as they were
 pub rest_same : {value : ℕ → ℕ} (before after : List ℕ) → Stored value 0 cycle before after → drop cycle after ≡ drop cycle before

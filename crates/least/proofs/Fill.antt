@@ -6,7 +6,7 @@ use native.Mathlib.Omega.{arith}
 use native.Mathlib.Decide.{ℕ_discrete}
 use mathlib.Core.Path.{◌≡◌, ◌∙◌}
 use mathlib.Core.List.{List}
-use lib.ListN.{length, get_or, set, replicate, length-set, length-replicate}
+use lib.ListN.{length, get_or, set, length-set}
 use lib.Seq.{get_or-set_same, get_or-set_other}
 
 pub record Filled {A : Type 0} (d : A) (g : ℕ → A) (n : ℕ) (xs : List A) (i : ℕ) : Type 0 where
@@ -14,9 +14,6 @@ pub record Filled {A : Type 0} (d : A) (g : ℕ → A) (n : ℕ) (xs : List A) (
   pub each : (k : ℕ) → k < i → get_or xs k d ≡ g k
 
 module _ {A : Type 0} (d : A) (g : ℕ → A) (n : ℕ) where
-  pub fill_start : (x : A) → Filled d g n (replicate n x) 0
-  fill_start x = record { room = length-replicate n x; each = λ k l. absurd (omega arith) }
-
   pub fill_step : (xs : List A) (i : ℕ) (v : A) → Filled d g n xs i → i < n → v ≡ g i → Filled d g n (set xs i v) (i + 1)
   fill_step xs i v f l e = record { room = length-set xs i v ∙ f.room; each = λ k h. at k h (ℕ_discrete k i) }
     where

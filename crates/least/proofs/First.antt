@@ -2,13 +2,11 @@
 -- Assumes nothing.
 use Prim.Native.Nat.{ℕ, zero, suc, ◌+◌, ◌≤◌, ◌<◌}
 use native.Mathlib.Omega.{arith}
-use native.Mathlib.Nat.{eq-or-lt_of_le}
 use mathlib.Core.Path.{◌≡◌, refl, sym, ap, ◌∙◌, subst}
 use mathlib.Core.Bool.{Bool, true, false, not}
-use mathlib.Core.Logic.{◌⊎◌, inl, inr}
 use mathlib.Core.List.{List, [], ◌∷◌}
-use lib.ListN.{length, take, get_or}
-use lib.Seq.{get_or-take, length-take-le}
+use borrow.Author.Count.{below_more}
+use lib.ListN.{length, get_or}
 use Rattle.least.specs.declared.Frac.{Frac}
 use Rattle.least.specs.Lists.{every, first_from, first_of}
 use Rattle.least.specs.Fraction.{frac, at_most, greatest_of}
@@ -22,11 +20,7 @@ module _ {A : Type 0} (d : A) where
   NoneBefore test xs k = (i : ℕ) → i < k → test (get_or xs i d) ≡ false
 
   pub none_more : (test : A → Bool) (xs : List A) (k : ℕ) → NoneBefore test xs k → test (get_or xs k d) ≡ false → NoneBefore test xs (k + 1)
-  none_more test xs k none f i h = go (eq-or-lt_of_le {n = i} {m = k} (omega arith))
-    where
-      go : (i ≡ k) ⊎ (i < k) → test (get_or xs i d) ≡ false
-      go (inl e) = rw e f
-      go (inr l) = none i l
+  none_more test xs k none f = below_more (λ i. test (get_or xs i d) ≡ false) k none f
 
   first_from_is : (test : A → Bool) (i k : ℕ) (xs : List A) → k < length xs → test (get_or xs k d) ≡ true → NoneBefore test xs k → first_from i test xs ≡ i + k
   unfolding first_from
@@ -56,15 +50,6 @@ module _ {A : Type 0} (d : A) where
       go : (b : Bool) → test x ≡ b → every test xs ≡ false → every test (x ∷ xs) ≡ false
       go true t ih = every_pass test x xs t ∙ ih
       go false t ih = every_fail test x xs t
-
-  -- among the first n elements
-  pub first_in : (test : A → Bool) (n k : ℕ) (xs : List A) → n ≤ length xs → k < n → test (get_or xs k d) ≡ true → NoneBefore test xs k → first_of test (take n xs) ≡ suc k
-  first_in test n k xs l h e none =
-      first_is test k (take n xs) (omega (arith, length-take-le n xs l)) (ap test (get_or-take n xs k d h) ∙ e) (λ i j. ap test (get_or-take n xs i d (omega arith)) ∙ none i j)
-
-  pub first_in_none : (test : A → Bool) (n : ℕ) (xs : List A) → n ≤ length xs → NoneBefore test xs n → first_of test (take n xs) ≡ 0
-  first_in_none test n xs l none =
-      first_is_none test (take n xs) (λ i j. let h : i < n = omega (arith, length-take-le n xs l) in ap test (get_or-take n xs i d h) ∙ none i h)
 
 -- the first that does not pass tells whether every element passes
 module _ {A : Type 0} (test : A → Bool) (xs : List A) where

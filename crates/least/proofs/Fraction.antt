@@ -10,6 +10,7 @@ use Prim.Native.Nat.{ℕ, zero, suc, ◌*◌, ◌+◌, ◌≤◌, ◌<◌, zero-
 use native.Mathlib.Nat.{le_refl, mul-le-mul_right, le_of_mul-le-mul_right, le_of_mul-le-mul_left, mul_right_comm, mul-zero, one-mul, eq-or-lt_of_le}
 use native.Mathlib.Omega.{arith}
 use native.Mathlib.Decide.{dec_lt, ℕ_discrete}
+use borrow.Author.Count.{below_more}
 use borrow.Author.Tests.{ltb-true, ltb-false, leb-true, leb-false, lt-ltb, le-ltb, le-leb, lt-leb}
 use lib.Dec.{leb, ltb}
 use lib.ListN.{length, take, get_or}
@@ -301,28 +302,14 @@ pub record Leads (d : Frac) (xs : List Frac) (i j : ℕ) : Type 0 where
   pub before : (k : ℕ) → k < j → get_or xs k d ⊏ get_or xs j d
 
 module _ (d : Frac) (xs : List Frac) where
-  pub leads_start : Leads d xs 1 0
-  leads_start = record {
-    within = omega arith;
-    above = λ k h. let e : k ≡ 0 = omega arith in rw e (⊑_refl _);
-    before = λ k h. absurd (omega arith);
-  }
-
   -- one element more
-  next : (i : ℕ) (P : ℕ → Type 0) → ((k : ℕ) → k < i → P k) → P i → (k : ℕ) → k < i + 1 → P k
-  next i P f p k h = go (eq-or-lt_of_le {n = k} {m = i} (omega arith))
-    where
-      go : (k ≡ i) ⊎ (k < i) → P k
-      go (inl e) = subst P (sym e) p
-      go (inr l) = f k l
-
   pub leads_on : (i j : ℕ) → Leads d xs i j → get_or xs i d ⊑ get_or xs j d → Leads d xs (i + 1) j
-  leads_on i j f h = record { within = omega (arith, f.within); above = next i (λ k. get_or xs k d ⊑ get_or xs j d) f.above h; before = f.before }
+  leads_on i j f h = record { within = omega (arith, f.within); above = below_more (λ k. get_or xs k d ⊑ get_or xs j d) i f.above h; before = f.before }
 
   pub leads_over : (i j : ℕ) → ((k : ℕ) → k < i → Ok (get_or xs k d)) → Leads d xs i j → get_or xs j d ⊏ get_or xs i d → Leads d xs (i + 1) i
   leads_over i j ok f h = record {
     within = omega arith;
-    above = next i (λ k. get_or xs k d ⊑ get_or xs i d) (λ k l. ⊏-⊑ (⊑-⊏-trans (ok k l) (f.above k l) h)) (⊑_refl _);
+    above = below_more (λ k. get_or xs k d ⊑ get_or xs i d) i (λ k l. ⊏-⊑ (⊑-⊏-trans (ok k l) (f.above k l) h)) (⊑_refl _);
     before = λ k l. ⊑-⊏-trans (ok k l) (f.above k l) h;
   }
 

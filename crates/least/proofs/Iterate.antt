@@ -1,6 +1,7 @@
 -- The least w with f w ≤ w, for a monotone f, by iteration. A value with no solution below it, from 1 or from any start on, steps to f of it,
 -- which again has none below it, and jumps to any number that no solution from there on is below; where f w ≤ w it is the least solution.
 -- Assumes nothing.
+use Rattle.std.specs.Prelude.{Some, None}
 use Prim.Native.Nat.{ℕ, ◌+◌, ◌≤◌, ◌<◌}
 use native.Mathlib.Nat.{le_trans, lt_of_lt_of_le}
 use native.Mathlib.Omega.{arith}
@@ -9,7 +10,6 @@ use mathlib.Core.Path.{◌≡◌}
 use mathlib.Core.Bool.{Bool}
 use borrow.Author.Tests.{le-leb, lt-leb}
 use lib.Dec.{leb}
-use Rattle.least.specs.declared.Least.TheVariants.{At, Nothing}
 use Rattle.least.specs.Search.{least_from}
 use Rattle.least.proofs.Search.{NoneIn, least_at, least_nothing}
 
@@ -59,17 +59,17 @@ none_settles : (a : ℕ) (f : ℕ → ℕ) (w e : ℕ) → UnsolvedFrom a f w �
 none_settles a f w e uns l v p h = lt-leb (f v) v (uns v p (omega arith))
 
 -- past the n numbers from a on: none of them is a solution
-pub past_from : (a n : ℕ) (f : ℕ → ℕ) (w : ℕ) → UnsolvedFrom a f w → a + n ≤ w → least_from (settles f) a n ≡ Nothing
+pub past_from : (a n : ℕ) (f : ℕ → ℕ) (w : ℕ) → UnsolvedFrom a f w → a + n ≤ w → least_from (settles f) a n ≡ None
 past_from a n f w uns l = least_nothing (settles f) n a (none_settles a f w (a + n) uns l)
 
 -- at rest among them: it is the least solution
-pub rest_from : (a n : ℕ) (f : ℕ → ℕ) (w : ℕ) → UnsolvedFrom a f w → a ≤ w → w < a + n → f w ≤ w → least_from (settles f) a n ≡ At w
+pub rest_from : (a n : ℕ) (f : ℕ → ℕ) (w : ℕ) → UnsolvedFrom a f w → a ≤ w → w < a + n → f w ≤ w → least_from (settles f) a n ≡ Some w
 rest_from a n f w uns p l h =
     least_at (settles f) n a w (record { from = p; below = l; passes = le-leb (f w) w h; before = none_settles a f w w uns (omega arith) })
 
 -- the same of the numbers from 1 to a limit
-pub past_limit : (f : ℕ → ℕ) (w limit : ℕ) → Unsolved f w → limit < w → least_from (settles f) 1 limit ≡ Nothing
+pub past_limit : (f : ℕ → ℕ) (w limit : ℕ) → Unsolved f w → limit < w → least_from (settles f) 1 limit ≡ None
 past_limit f w limit uns l = past_from 1 limit f w uns (omega arith)
 
-pub at_rest : (f : ℕ → ℕ) (w limit : ℕ) → Unsolved f w → 1 ≤ w → w ≤ limit → f w ≤ w → least_from (settles f) 1 limit ≡ At w
+pub at_rest : (f : ℕ → ℕ) (w limit : ℕ) → Unsolved f w → 1 ≤ w → w ≤ limit → f w ≤ w → least_from (settles f) 1 limit ≡ Some w
 at_rest f w limit uns p l h = rest_from 1 limit f w uns p (omega arith) h

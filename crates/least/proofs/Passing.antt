@@ -1,14 +1,13 @@
--- How many elements of a list, or numbers of a stretch, pass a test.
+-- How many elements of a list pass a test.
 --   PassesAt test d xs k == the k-th element of the list, counted from 1, passes the test
---   passing test k n     == how many of the numbers from k up to n, n left out, pass
 -- Assumes nothing.
-use Prim.Native.Nat.{ℕ, zero, suc, ◌+◌, ◌-◌, ◌≤◌, ◌<◌}
+use Prim.Native.Nat.{ℕ, zero, suc, ◌-◌, ◌≤◌}
 use native.Mathlib.Omega.{arith}
 use mathlib.Core.Path.{◌≡◌, refl, sym, ap, ◌∙◌}
 use mathlib.Core.Bool.{Bool, true, false}
 use mathlib.Core.List.{List, [], ◌∷◌}
-use lib.ListN.{length, get_or}
-use Rattle.least.specs.Lists.{count_from, nth_or, those}
+use lib.ListN.{length}
+use Rattle.least.specs.Lists.{nth_or, those}
 use Rattle.least.proofs.Lists.{those_pass, those_fail, those_member, those_passing, nth_get, nth_member}
 use Rattle.least.proofs.Members.{place_of}
 
@@ -82,44 +81,3 @@ module _ {A : Type 0} (test : A → Bool) (d : A) where
       go false t m e ih =
           let p = ih (omega (arith, h, ap length (those_fail test x xs t))) in
           (suc p.0, λ f. p.1 (omega (arith, f, p.2.from)), passes_later x xs p.0 p.2)
-
--- the numbers of a stretch, one after another
-abbrev pub passing : (ℕ → Bool) → ℕ → ℕ → ℕ
-passing test k n = length (those test (count_from k (n - k)))
-
-module _ (test : ℕ → Bool) (k n : ℕ) where
-  counted : k < n → count_from k (n - k) ≡ k ∷ count_from (k + 1) (n - (k + 1))
-  unfolding count_from
-  counted h =
-      let e : n - k ≡ suc (n - (k + 1)) = omega arith in
-      let f : suc k ≡ k + 1 = omega arith in
-      rw (e, count_from, f) refl
-
-  pub passing_more : k < n → test k ≡ true → passing test k n ≡ suc (passing test (k + 1) n)
-  passing_more h t = ap (λ (l : List ℕ). length (those test l)) (counted h) ∙ ap length (those_pass test k (count_from (k + 1) (n - (k + 1))) t)
-
-  pub passing_not : k < n → test k ≡ false → passing test k n ≡ passing test (k + 1) n
-  passing_not h t = ap (λ (l : List ℕ). length (those test l)) (counted h) ∙ ap length (those_fail test k (count_from (k + 1) (n - (k + 1))) t)
-
-  pub passing_end : n ≤ k → passing test k n ≡ 0
-  unfolding count_from those
-  passing_end h = let e : n - k ≡ 0 = omega arith in rw e refl
-
--- from the first place on
-pub all_passing : (test : ℕ → Bool) (n : ℕ) → passing test 0 n ≡ length (those test (count_from 0 n))
-all_passing test n = let e : n - 0 ≡ n = omega arith in ap (λ (m : ℕ). length (those test (count_from 0 m))) e
-
--- the elements of a list that pass are as many as the places that pass
-module _ {A : Type 0} (test : ℕ → Bool) (other : A → Bool) (d : A) where
-  pub passing_same : (a : ℕ) (xs : List A) → ((k : ℕ) → k < length xs → test (a + k) ≡ other (get_or xs k d)) → length (those test (count_from a (length xs))) ≡ length (those other xs)
-  unfolding count_from those
-  passing_same a [] h = refl
-  passing_same a (x ∷ xs) h =
-      go (passing_same (suc a) xs (λ k l. let e : a + suc k ≡ suc a + k = omega arith in rw e at (h (suc k) (omega arith)))) (test a) refl
-    where
-      first : test a ≡ other x
-      first = let e : a + 0 ≡ a = omega arith in rw e at (h 0 (omega arith))
-
-      go : length (those test (count_from (suc a) (length xs))) ≡ length (those other xs) → (b : Bool) → test a ≡ b → length (those test (a ∷ count_from (suc a) (length xs))) ≡ length (those other (x ∷ xs))
-      go ih true t = rw (those_pass test a (count_from (suc a) (length xs)) t, those_pass other x xs (sym first ∙ t)) (ap suc ih)
-      go ih false t = rw (those_fail test a (count_from (suc a) (length xs)) t, those_fail other x xs (sym first ∙ t)) ih

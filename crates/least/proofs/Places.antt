@@ -1,4 +1,4 @@
--- Lists by places: what stands at a place of a list that is made from another, and an array whose places are all filled.
+-- Lists by places: what stands at a place of a list that is made from another.
 -- Assumes nothing.
 use Prim.Native.Nat.{ℕ, ◌≤◌, ◌<◌}
 use native.Mathlib.Omega.{arith}
@@ -6,18 +6,10 @@ use mathlib.Core.Path.{◌≡◌, sym, ap, ◌∙◌}
 use mathlib.Core.List.{List, map}
 use lib.ListN.{length, take, get_or, length-map, get_or-map}
 use lib.Seq.{ext_get_or, get_or-take, length-take-le}
-use Rattle.least.specs.Lists.{count_from}
-use Rattle.least.proofs.Fill.{Filled}
-use Rattle.least.proofs.Columns.{column_length, column_get}
 use Rattle.least.proofs.Members.{get_d_any}
 
 pub get-map : {A B : Type 0} (f : A → B) (xs : List A) (k : ℕ) (d : A) (e : B) → k < length xs → get_or (map f xs) k e ≡ f (get_or xs k d)
 get-map f xs k d e h = get_d_any (map f xs) k e (f d) (rw (length-map xs f) h) ∙ get_or-map f xs k d
-
-pub filled_column : {A : Type 0} (d : A) (g : ℕ → A) (n : ℕ) (xs : List A) → Filled d g n xs n → xs ≡ map g (count_from 0 n)
-filled_column d g n xs f =
-    ext_get_or d xs (map g (count_from 0 n)) (f.room ∙ sym (column_length g n))
-    (λ i h. let l = f.room in f.each i (omega arith) ∙ sym (column_get g d i n (omega arith)))
 
 -- the first n of a list, changed one by one
 pub map-take_each : {A B : Type 0} (f : A → B) (n : ℕ) (xs : List A) (ys : List B) (d : A) → n ≤ length xs → length ys ≡ n → ((k : ℕ) → k < n → f (get_or xs k d) ≡ get_or ys k (f d)) → map f (take n xs) ≡ ys

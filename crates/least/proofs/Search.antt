@@ -1,5 +1,6 @@
 -- Laws of the bounded searches: what a search finds is known, and a search is known by what it finds. The laws at the end say it in the paper's words.
 -- Assumes nothing.
+use Rattle.std.specs.Prelude.{Some, None}
 use Prim.Native.Nat.{ℕ, zero, suc, ◌+◌, ◌-◌, ◌≤◌, ◌<◌}
 use native.Mathlib.Nat.{le_refl, le_of_lt, eq-or-lt_of_le}
 use native.Mathlib.Omega.{arith}
@@ -9,7 +10,6 @@ use mathlib.Core.Bool.{Bool, true, false, false≢true}
 use mathlib.Core.Logic.{◌⊎◌, inl, inr, ◌↔◌}
 use lib.Dec.{leb}
 use borrow.Author.Tests.{le-leb, lt-leb, leb-true, leb-false}
-use Rattle.least.specs.declared.Least.TheVariants.{At, Nothing}
 use Rattle.least.specs.Search.{least_from, any_from, least_up_to, any_up_to}
 use Rattle.least.specs.Code.Search.{IsLeast}
 
@@ -38,7 +38,7 @@ pub record LeastIn (test : ℕ → Bool) (a e w : ℕ) : Type 0 where
 
 -- a search of the n numbers from a on finds the least that passes, or nothing where none does
 abbrev pub Known : (ℕ → Bool) → ℕ → ℕ → Type 0
-Known test n a = ((w : ℕ) × LeastIn test a (a + n) w × (least_from test a n ≡ At w)) ⊎ (NoneIn test a (a + n) × (least_from test a n ≡ Nothing))
+Known test n a = ((w : ℕ) × LeastIn test a (a + n) w × (least_from test a n ≡ Some w)) ⊎ (NoneIn test a (a + n) × (least_from test a n ≡ None))
 
 module _ (test : ℕ → Bool) where
   -- one number less at the front
@@ -61,26 +61,26 @@ module _ (test : ℕ → Bool) where
       at (inl q) = ap test q ∙ f
       at (inr q) = none v l q
 
-  found : (n a w : ℕ) → a ≡ w → test w ≡ true → least_from test a (suc n) ≡ At w
+  found : (n a w : ℕ) → a ≡ w → test w ≡ true → least_from test a (suc n) ≡ Some w
   unfolding least_from
-  found n a w e p = let h : test a ≡ true = ap test e ∙ p in rw (h, least_from) (ap At e)
+  found n a w e p = let h : test a ≡ true = ap test e ∙ p in rw (h, least_from) (ap Some e)
 
   passed : (n a : ℕ) → test a ≡ false → least_from test a (suc n) ≡ least_from test (suc a) n
   unfolding least_from
   passed n a f = rw (f, least_from) refl
 
   -- the least number is what the search answers
-  pub least_at : (n a w : ℕ) → LeastIn test a (a + n) w → least_from test a n ≡ At w
+  pub least_at : (n a w : ℕ) → LeastIn test a (a + n) w → least_from test a n ≡ Some w
   least_at zero a w l = absurd (omega arith)
   least_at (suc n) a w l = go (λ h. least_at n (suc a) w h) (eq-or-lt_of_le l.from)
     where
-      go : (LeastIn test (suc a) (suc a + n) w → least_from test (suc a) n ≡ At w) → (a ≡ w) ⊎ (a < w) → least_from test a (suc n) ≡ At w
+      go : (LeastIn test (suc a) (suc a + n) w → least_from test (suc a) n ≡ Some w) → (a ≡ w) ⊎ (a < w) → least_from test a (suc n) ≡ Some w
       go ih (inl e) = found n a w e l.passes
       go ih (inr h) =
           passed n a (l.before a (le_refl a) h) ∙ ih (record { from = h; below = omega arith; passes = l.passes; before = later a w l.before })
 
   -- where none passes it answers Nothing
-  pub least_nothing : (n a : ℕ) → NoneIn test a (a + n) → least_from test a n ≡ Nothing
+  pub least_nothing : (n a : ℕ) → NoneIn test a (a + n) → least_from test a n ≡ None
   unfolding least_from
   least_nothing zero a none = refl
   least_nothing (suc n) a none =
@@ -165,14 +165,14 @@ any_more test other (suc n) a more e = go (λ h. any_more test other n (suc a) m
 
 -- what an answer says
 module _ (test : ℕ → Bool) (n a : ℕ) where
-  pub least_found : (w : ℕ) → least_from test a n ≡ At w → LeastIn test a (a + n) w
+  pub least_found : (w : ℕ) → least_from test a n ≡ Some w → LeastIn test a (a + n) w
   least_found w e = go (least_known test n a)
     where
       go : Known test n a → LeastIn test a (a + n) w
       go (inl d) = let same : d.0 ≡ w = cc d.2 in subst (LeastIn test a (a + n)) same d.1
       go (inr d) = let z : ◌≡◌ {A = ℕ} 0 1 = cc d.1 in absurd (omega arith)
 
-  pub least_missed : least_from test a n ≡ Nothing → NoneIn test a (a + n)
+  pub least_missed : least_from test a n ≡ None → NoneIn test a (a + n)
   least_missed e = go (least_known test n a)
     where
       go : Known test n a → NoneIn test a (a + n)
@@ -190,14 +190,14 @@ least_same test other (suc n) a same =
     go ih false e s = passed test n a e ∙ ih ∙ sym (passed other n a (sym s ∙ e))
 
 -- a number that passes: the search finds it or one before it
-pub least_upto : (test : ℕ → Bool) (n a w : ℕ) → a ≤ w → w < a + n → test w ≡ true → (r : ℕ) × LeastIn test a (a + n) r × (least_from test a n ≡ At r) × (r ≤ w)
+pub least_upto : (test : ℕ → Bool) (n a w : ℕ) → a ≤ w → w < a + n → test w ≡ true → (r : ℕ) × LeastIn test a (a + n) r × (least_from test a n ≡ Some r) × (r ≤ w)
 least_upto test n a w l u t = go (least_known test n a)
   where
     before : (r : ℕ) → LeastIn test a (a + n) r → Dec (r ≤ w) → r ≤ w
     before r f (yes h) = h
     before r f (no h) = absurd (false≢true (sym (f.before w l (omega arith)) ∙ t))
 
-    go : Known test n a → (r : ℕ) × LeastIn test a (a + n) r × (least_from test a n ≡ At r) × (r ≤ w)
+    go : Known test n a → (r : ℕ) × LeastIn test a (a + n) r × (least_from test a n ≡ Some r) × (r ≤ w)
     go (inl d) = (d.0, d.1, d.2, before d.0 d.1 (dec_le _ _))
     go (inr d) = absurd (false≢true (sym (d.0 w l u) ∙ t))
 
@@ -221,18 +221,18 @@ module _ (test : ℕ → Bool) where
       go (yes h) = h
       go (no h) = absurd (false≢true (sym (none v p (omega arith)) ∙ t))
 
-  pub least_iff : (e w : ℕ) → (least_up_to test e ≡ At w) ↔ (IsLeast test w × (w ≤ e))
+  pub least_iff : (e w : ℕ) → (least_up_to test e ≡ Some w) ↔ (IsLeast test w × (w ≤ e))
   least_iff e w = (to, from)
     where
-      to : least_up_to test e ≡ At w → IsLeast test w × (w ≤ e)
+      to : least_up_to test e ≡ Some w → IsLeast test w × (w ≤ e)
       to q =
           let l = least_found test e 1 w q in
           (record { positive = l.from; passes = l.passes; first = first_of w l.before }, omega (arith, l.below))
 
-      from : IsLeast test w × (w ≤ e) → least_up_to test e ≡ At w
+      from : IsLeast test w × (w ≤ e) → least_up_to test e ≡ Some w
       from (l, h) = least_at test e 1 w (record { from = l.positive; below = omega arith; passes = l.passes; before = none_before w l })
 
-  pub none_iff : (e : ℕ) → (least_up_to test e ≡ Nothing) ↔ ((v : ℕ) → 1 ≤ v → v ≤ e → test v ≡ false)
+  pub none_iff : (e : ℕ) → (least_up_to test e ≡ None) ↔ ((v : ℕ) → 1 ≤ v → v ≤ e → test v ≡ false)
   none_iff e = ((λ q v p h. least_missed test e 1 q v p (omega arith)), (λ none. least_nothing test e 1 (λ v p h. none v p (omega arith))))
 
   pub any_found : (n a : ℕ) → any_from test a n ≡ true → (t : ℕ) × (a ≤ t) × (t < a + n) × (test t ≡ true)

@@ -4,24 +4,22 @@
 --   any_up_to test e    == some t, 1 ≤ t ≤ e, passes the test
 --   number_or0 l        == the number that a search found, 0 where it found none
 -- Assumes nothing.
-use Rattle.std.specs.Prelude.{ℕ, zero, suc, Bool, true, false}
-use Rattle.least.specs.declared.Least.{Least}
-use Rattle.least.specs.declared.Least.TheVariants.{At, Nothing}
+use Rattle.std.specs.Prelude.{ℕ, zero, suc, Bool, true, false, Option, Some, None}
 
-unfoldable pub least_from : (ℕ → Bool) → ℕ → ℕ → Least
-least_from test a zero = Nothing
-least_from test a (suc n) = elim (test a) [ true ↦ At a | false ↦ least_from test (suc a) n ]
+unfoldable pub least_from : (ℕ → Bool) → ℕ → ℕ → Option ℕ
+least_from test a zero = None
+least_from test a (suc n) = elim (test a) [ true ↦ Some a | false ↦ least_from test (suc a) n ]
 
 unfoldable pub any_from : (ℕ → Bool) → ℕ → ℕ → Bool
 any_from test a zero = false
 any_from test a (suc n) = elim (test a) [ true ↦ true | false ↦ any_from test (suc a) n ]
 
-abbrev pub least_up_to : (ℕ → Bool) → ℕ → Least
+abbrev pub least_up_to : (ℕ → Bool) → ℕ → Option ℕ
 least_up_to test e = least_from test 1 e
 
 abbrev pub any_up_to : (ℕ → Bool) → ℕ → Bool
 any_up_to test e = any_from test 1 e
 
-unfoldable pub number_or0 : Least → ℕ
-number_or0 (At w) = w
-number_or0 Nothing = 0
+unfoldable pub number_or0 : Option ℕ → ℕ
+number_or0 (Some w) = w
+number_or0 None = 0

@@ -5,20 +5,20 @@ use native.Mathlib.Nat.{add-zero}
 use native.Mathlib.Numerals.{add-one}
 use native.Mathlib.Omega.{arith}
 use mathlib.Core.Path.{◌≡◌, refl, sym, ap, ap₂, ◌∙◌}
-use mathlib.Core.List.{List, [], ◌∷◌, ◌++◌, map}
+use mathlib.Core.List.{List, [], ◌∷◌, ◌++◌}
 use lib.ListN.{length, take, drop, get_or, length-append, length-map, length-take, length-drop, get_or-map, drop_of_length-le}
-use lib.Seq.{drop-cons, get_or-take, length-take-le}
-use Rattle.least.specs.declared.Frac.{Frac}
+use lib.Seq.{drop-cons}
 use Rattle.least.specs.Lists.{joined}
-use Rattle.load.specs.declared.Row.{Row}
 use Rattle.stretch.specs.declared.Span.{Span}
 use Rattle.stretch.specs.Stretch.{bytes_of}
 use Rattle.plan_file.specs.Stretches.{no_span}
+use Rattle.plan_file.specs.Code.Entries.{names_of}
+use Rattle.listing.specs.declared.ShareLines.{ShareLines}
 use Rattle.task_set.specs.Blocking.{Setting}
-use Rattle.task_set.specs.Code.ByLock.{setting_from}
-use Rattle.task_set.proofs.BlockingAt.{setting_from_at}
-use Rattle.listing.specs.Listing.{Ceiling, ceilings_under, share_under, ceiling_line, share_line, share_lines}
-use Rattle.listing.specs.Code.Shares.{bare, ceiling_lines}
+use Rattle.task_set.specs.Code.ByLock.{setting_of}
+use Rattle.task_set.proofs.BlockingAt.{setting_at}
+use Rattle.listing.specs.Listing.{Ceiling, Share, ceilings_under, ceiling_line, share_line, share_lines}
+use Rattle.listing.specs.Code.Shares.{ceiling_lines}
 
 -- a stretch is no longer than its file
 pub stretch_length : (s : List ℕ) (p : Span) → length (bytes_of s p) ≤ length s
@@ -34,13 +34,12 @@ unfolding ceiling_lines joined
 lines_cons c cs = refl
 
 -- the lines of a part: its share line, then its ceilings
-module _ (name : List ℕ) (locks : List (List ℕ)) (σ : Setting) (r : Row) (b : Frac) where
-  pub share_lines_pieces : share_lines (share_under name locks σ r b) ≡ share_line (bare name r b) ++ ceiling_lines (ceilings_under σ 1 locks)
-  unfolding share_lines share_line share_under bare ceiling_lines
-  share_lines_pieces = refl
+pub share_pieces : (s : Share) → share_lines s ≡ share_line s ++ ceiling_lines s.ceilings
+unfolding share_lines ceiling_lines
+share_pieces s = refl
 
-  pub share_lines_length : length (share_lines (share_under name locks σ r b)) ≡ length (share_line (bare name r b)) + length (ceiling_lines (ceilings_under σ 1 locks))
-  share_lines_length = ap length share_lines_pieces ∙ length-append (share_line (bare name r b)) (ceiling_lines (ceilings_under σ 1 locks))
+pub share_length : (s : Share) → length (share_lines s) ≡ length (share_line s) + length (ceiling_lines s.ceilings)
+share_length s = ap length (share_pieces s) ∙ length-append (share_line s) (ceiling_lines s.ceilings)
 
 ceilings_cons : (σ : Setting) (l : ℕ) (name : List ℕ) (names : List (List ℕ)) → ceilings_under σ l (name ∷ names) ≡ record { lock = name; number = σ l } ∷ ceilings_under σ (suc l) names
 unfolding ceilings_under
@@ -59,37 +58,43 @@ ceilings_agree σ τ l (name ∷ names) same =
     let later = ceilings_agree σ τ (suc l) names (λ j h. let e : suc l + j ≡ l + suc j = omega arith in ap σ e ∙ same (suc j) (omega arith) ∙ ap τ (sym e)) in
     ap₂ (λ (n : ℕ) (rest : List Ceiling). record { lock = name; number = n } ∷ rest) first later
 
--- the first n stretches as locks, from the place i on; their ceilings stand in cs from the place `first` on
-module _ (s : List ℕ) (n : ℕ) (qs : List Span) (cs : List ℕ) (first : ℕ) where
-  abbrev pub lock_at : ℕ → Ceiling
-  lock_at i = record { lock = bytes_of s (get_or qs i no_span); number = get_or cs (first + i) 0 }
+-- the ceilings of a part, from the place i on
+module _ (l : ShareLines) where
+  abbrev names : List (List ℕ)
+  names = names_of l.file.now l.locks.now
+
+  abbrev spans : List Span
+  spans = take l.locks.now.count l.locks.now.span
 
   abbrev pub locks_from : ℕ → List Ceiling
-  locks_from i = ceilings_under (setting_from cs first) (suc i) (drop i (map (bytes_of s) (take n qs)))
+  locks_from i = ceilings_under (setting_of l.ceilings.now) (suc i) (drop i names)
 
-  module _ (h : n ≤ length qs) (i : ℕ) where
-    names_count : length (map (bytes_of s) (take n qs)) ≡ n
-    names_count = length-map (take n qs) (bytes_of s) ∙ length-take-le n qs h
+  names_count : length names ≡ length spans
+  unfolding names_of
+  names_count = length-map spans (bytes_of l.file.now)
 
-    locks_at : i < n → locks_from i ≡ lock_at i ∷ locks_from (i + 1)
-    locks_at l =
-        let names = map (bytes_of s) (take n qs) in
-        let σ = setting_from cs first in
-        let d = bytes_of s no_span in
-        let name : get_or names i d ≡ bytes_of s (get_or qs i no_span) = get_or-map (bytes_of s) (take n qs) i no_span ∙ ap (bytes_of s) (get_or-take n qs i no_span l) in
-        let cut : drop i names ≡ bytes_of s (get_or qs i no_span) ∷ drop (suc i) names =
-        drop-cons names i d (omega (arith, names_count)) ∙ ap (λ (x : List ℕ). x ∷ drop (suc i) names) name in
-        ap (ceilings_under σ (suc i)) cut
-        ∙ ceilings_cons σ (suc i) (bytes_of s (get_or qs i no_span)) (drop (suc i) names)
-        ∙ ap₂ (λ (c k : ℕ). record { lock = bytes_of s (get_or qs i no_span); number = c } ∷ locks_from k) (setting_from_at cs first i) (sym (add-one i))
+  -- the first of them is that of the lock at the place i
+  pub locks_more : (i : ℕ) {lock : List ℕ} → i < length spans → lock ≡ bytes_of l.file.now (get_or spans i no_span)
+      → ceiling_lines (locks_from i) ≡ ceiling_line (record { lock = lock; number = get_or l.ceilings.now i 0 }) ++ ceiling_lines (locks_from (i + 1))
+  unfolding names_of
+  locks_more i {lock} h e =
+      let of = bytes_of l.file.now in
+      let σ = setting_of l.ceilings.now in
+      let cut : drop i names ≡ lock ∷ drop (suc i) names =
+      drop-cons names i (of no_span) (omega (arith, names_count))
+      ∙ ap (λ (x : List ℕ). x ∷ drop (suc i) names) (get_or-map of spans i no_span ∙ sym e) in
+      ap (λ (rest : List (List ℕ)). ceiling_lines (ceilings_under σ (suc i) rest)) cut
+      ∙ ap ceiling_lines (ceilings_cons σ (suc i) lock (drop (suc i) names)
+      ∙ ap₂ (λ (c k : ℕ). record { lock = lock; number = c } ∷ locks_from k) (setting_at l.ceilings.now i) (sym (add-one i)))
+      ∙ lines_cons (record { lock = lock; number = get_or l.ceilings.now i 0 }) (locks_from (i + 1))
 
-    pub locks_more : i < n → ceiling_lines (locks_from i) ≡ ceiling_line (lock_at i) ++ ceiling_lines (locks_from (i + 1))
-    locks_more l = ap ceiling_lines (locks_at l) ∙ lines_cons (lock_at i) (locks_from (i + 1))
+  pub locks_more_length : (i : ℕ) {lock : List ℕ} → i < length spans → lock ≡ bytes_of l.file.now (get_or spans i no_span)
+      → length (ceiling_lines (locks_from i)) ≡ length (ceiling_line (record { lock = lock; number = get_or l.ceilings.now i 0 })) + length (ceiling_lines (locks_from (i + 1)))
+  locks_more_length i {lock} h e =
+      ap length (locks_more i h e) ∙ length-append (ceiling_line (record { lock = lock; number = get_or l.ceilings.now i 0 })) (ceiling_lines (locks_from (i + 1)))
 
-    pub locks_more_length : i < n → length (ceiling_lines (locks_from i)) ≡ length (ceiling_line (lock_at i)) + length (ceiling_lines (locks_from (i + 1)))
-    locks_more_length l = ap length (locks_more l) ∙ length-append (ceiling_line (lock_at i)) (ceiling_lines (locks_from (i + 1)))
-
-    pub locks_end : n ≤ i → ceiling_lines (locks_from i) ≡ []
-    locks_end l =
-        ap (λ (names : List (List ℕ)). ceiling_lines (ceilings_under (setting_from cs first) (suc i) names)) (drop_of_length-le (map (bytes_of s) (take n qs)) {i = i} (omega (arith, names_count)))
-        ∙ ap ceiling_lines (ceilings_none (setting_from cs first) (suc i)) ∙ lines_none
+  -- behind the last lock there are none
+  pub locks_end : (i : ℕ) → length spans ≤ i → ceiling_lines (locks_from i) ≡ []
+  locks_end i h =
+      ap (λ (rest : List (List ℕ)). ceiling_lines (ceilings_under (setting_of l.ceilings.now) (suc i) rest)) (drop_of_length-le names {i = i} (omega (arith, names_count)))
+      ∙ ap ceiling_lines (ceilings_none (setting_of l.ceilings.now) (suc i)) ∙ lines_none

@@ -17,8 +17,7 @@ use Rattle.refusal.specs.Limits.{number_limit, name_limit, task_limit, lock_limi
 use Rattle.text.specs.Decimal.{digits_of}
 use Rattle.writer.proofs.Digits.{digits_few}
 use Rattle.listing.specs.Listing.{Ceiling, Share, ceiling_line, share_line, share_lines, load_line, load_share, listing_of}
-use Rattle.listing.specs.Code.Shares.{bare, named}
-use Rattle.listing.proofs.Lines.{bound_length, load_length, share_line_length, ceiling_length}
+use Rattle.listing.proofs.Lines.{bound_length, load_length, share_length, ceiling_length}
 
 abbrev pub listing_limit : ℕ
 listing_limit = 30 + part_limit * (55 + lock_limit * 20)
@@ -48,14 +47,12 @@ ceiling_most c h = omega (arith, ceiling_length c.lock c.number, h.lock, two_dig
 
 module _ (s : Share) (h : ShortShare s) where
   load_most : length (load_line s) ≤ 30
-  unfolding load_line named bare
   load_most =
-      omega (arith, load_length s.name s.bound, bound_length s.bound, h.name, seven_digits s.bound.num h.num, seven_digits s.bound.den h.den)
+      omega (arith, load_length s, bound_length s.bound, h.name, seven_digits s.bound.num h.num, seven_digits s.bound.den h.den)
 
   share_line_most : length (share_line s) ≤ 55
-  unfolding share_line bare
   share_line_most =
-      omega (arith, share_line_length s.name s.row s.bound, bound_length s.bound, h.name, seven_digits s.row.period h.period, seven_digits s.row.budget h.budget, seven_digits s.row.holding h.holding, seven_digits s.bound.num h.num, seven_digits s.bound.den h.den)
+      omega (arith, share_length s, bound_length s.bound, h.name, seven_digits s.row.period h.period, seven_digits s.row.budget h.budget, seven_digits s.row.holding h.holding, seven_digits s.bound.num h.num, seven_digits s.bound.den h.den)
 
   share_lines_most : length (share_lines s) ≤ 55 + lock_limit * 20
   unfolding share_lines

@@ -10,8 +10,8 @@ use Rattle.least.specs.declared.Frac.{Frac}
 use Rattle.text.specs.Bytes.{bytes, line_of}
 use Rattle.text.specs.Decimal.{digits_of}
 use Rattle.load.specs.declared.Row.{Row}
-use Rattle.listing.specs.Listing.{ceiling_line, share_line, load_line, refused_line}
-use Rattle.listing.specs.Code.Shares.{head_of, named, bare}
+use Rattle.listing.specs.Listing.{Share, ceiling_line, share_line, load_line, refused_line}
+use Rattle.listing.specs.Code.Shares.{head_of}
 
 -- a field with the byte behind it
 abbrev pub closed : List ℕ → ℕ → List ℕ
@@ -41,9 +41,9 @@ two_pieces a b = line_first (digits_of a) (digits_of b) [] ∙ ap (λ (l : List 
 abbrev pub bound_end : Frac → List ℕ
 bound_end b = last_two b.num b.den
 
-pub load_pieces : (n : List ℕ) (b : Frac) → load_line (named n b) ≡ head_of (bytes "load") n ++ bound_end b
-unfolding load_line named bare
-load_pieces n b = line_head (bytes "load") n (digits_of b.num) (digits_of b.den ∷ [])
+pub load_pieces : (s : Share) → load_line s ≡ head_of (bytes "load") s.name ++ bound_end s.bound
+unfolding load_line
+load_pieces s = line_head (bytes "load") s.name (digits_of s.bound.num) (digits_of s.bound.den ∷ [])
 
 -- the numbers of a row and of its bound, at the end of a line
 abbrev pub row_end : Row → Frac → List ℕ
@@ -60,11 +60,14 @@ row_pieces r b =
     ∙ ap (λ (l : List ℕ). closed P 9 ++ l)
     (line_first Q X (L ∷ t ∷ []) ∙ ap (λ (l : List ℕ). closed Q 9 ++ l) (line_first X L (t ∷ [])))
 
-pub share_pieces : (n : List ℕ) (r : Row) (b : Frac) → share_line (bare n r b) ≡ head_of (bytes "share") n ++ row_end r b
-unfolding share_line bare
-share_pieces n r b =
-    line_head (bytes "share") n (digits_of r.period) (digits_of r.budget ∷ digits_of r.holding ∷ digits_of b.num ∷ digits_of b.den ∷ [])
-    ∙ ap (λ (l : List ℕ). head_of (bytes "share") n ++ l) (row_pieces r b)
+pub share_head : (s : Share)
+    → share_line s ≡ head_of (bytes "share") s.name ++ line_of (digits_of s.row.period ∷ digits_of s.row.budget ∷ digits_of s.row.holding ∷ digits_of s.bound.num ∷ digits_of s.bound.den ∷ [])
+unfolding share_line
+share_head s =
+    line_head (bytes "share") s.name (digits_of s.row.period) (digits_of s.row.budget ∷ digits_of s.row.holding ∷ digits_of s.bound.num ∷ digits_of s.bound.den ∷ [])
+
+share_pieces : (s : Share) → share_line s ≡ head_of (bytes "share") s.name ++ row_end s.row s.bound
+share_pieces s = share_head s ∙ ap (λ (l : List ℕ). head_of (bytes "share") s.name ++ l) (row_pieces s.row s.bound)
 
 pub ceiling_pieces : (n : List ℕ) (k : ℕ) → ceiling_line (record { lock = n; number = k }) ≡ head_of (bytes "ceiling") n ++ closed (digits_of k) 10
 unfolding ceiling_line
@@ -116,15 +119,15 @@ refused_word : length (bytes "refused") ≡ 7
 unfolding bytes
 refused_word = refl
 
-pub load_length : (n : List ℕ) (b : Frac) → length (load_line (named n b)) ≡ 6 + length n + length (bound_end b)
-load_length n b =
-    ap length (load_pieces n b) ∙ length-append (head_of (bytes "load") n) (bound_end b) ∙ omega (arith, head_length (bytes "load") n, load_word)
+pub load_length : (s : Share) → length (load_line s) ≡ 6 + length s.name + length (bound_end s.bound)
+load_length s =
+    ap length (load_pieces s) ∙ length-append (head_of (bytes "load") s.name) (bound_end s.bound) ∙ omega (arith, head_length (bytes "load") s.name, load_word)
 
-pub share_line_length : (n : List ℕ) (r : Row) (b : Frac)
-    → length (share_line (bare n r b)) ≡ 10 + length n + length (digits_of r.period) + length (digits_of r.budget) + length (digits_of r.holding) + length (bound_end b)
-share_line_length n r b =
-    ap length (share_pieces n r b) ∙ length-append (head_of (bytes "share") n) (row_end r b)
-    ∙ omega (arith, head_length (bytes "share") n, share_word, row_length r b)
+pub share_length : (s : Share)
+    → length (share_line s) ≡ 10 + length s.name + length (digits_of s.row.period) + length (digits_of s.row.budget) + length (digits_of s.row.holding) + length (bound_end s.bound)
+share_length s =
+    ap length (share_pieces s) ∙ length-append (head_of (bytes "share") s.name) (row_end s.row s.bound)
+    ∙ omega (arith, head_length (bytes "share") s.name, share_word, row_length s.row s.bound)
 
 pub ceiling_length : (n : List ℕ) (k : ℕ) → length (ceiling_line (record { lock = n; number = k })) ≡ 10 + length n + length (digits_of k)
 ceiling_length n k =

@@ -1,153 +1,54 @@
-// The lines that a plan prints: how long they are, and how they are written at a place of a lent buffer.
+// The lines that a plan prints: how long they are, and how they are written into a lent buffer.
 #![tactic(auto)]
 
-ghost use Rattle.std.specs.Prelude.{◌≡◌, [], ◌∷◌, ◌+◌, ◌^◌, ◌≤◌, length};
+ghost use Rattle.std.specs.Prelude.{◌≡◌, [], ◌∷◌, ◌^◌, ◌≤◌, length};
 ghost use Rattle.text.specs.Bytes.{line_of};
 ghost use Rattle.text.specs.Decimal.{digits_of};
-ghost use Rattle.stretch.specs.Stretch.{bytes_of};
-ghost use Rattle.task_set.specs.Code.ByLock.{setting_from};
-ghost use Rattle.plan_file.specs.Code.Entries.{names_of};
-ghost use Rattle.writer.specs.Code.Written.{Written};
-ghost use Rattle.listing.specs.Listing.{ceilings_under, share_under, ceiling_line, share_line, share_lines, load_line, refused_line};
-ghost use Rattle.listing.specs.Code.Shares.{head_of, named, bare, ceiling_lines, FineLocks};
+ghost use Rattle.writer.specs.Code.Written.{Room, Written, Wrote};
+ghost use Rattle.listing.specs.Listing.{ceiling_line, share_line, share_lines, load_line, refused_line};
+ghost use Rattle.listing.specs.Code.Shares.{head_of, printed, ceiling_lines, FineLocks, Short};
 
 use least::Frac;
 use load::Row;
 use plan_file::Names;
-use refusal::CEILING_PLACES;
-use stretch::Span;
+use writer::Writer;
 
 const TAB: u8 = 9;
 
 const NEWLINE: u8 = 10;
 
 // The first two fields of a line, each with the tab behind it.
-fn write_head(out: &mut [u8], at: usize, word: &[u8], name: &[u8]) -> usize
-    requires { at + length (head_of word.now name.now) ≤ length out.old }
-    ensures { Written at (head_of word.now name.now) out.old out.new result }
+fn write_head(w: &mut Writer, word: &[u8], name: &[u8])
+    requires { Room (head_of word.now name.now) w.old }
+    ensures { Wrote (head_of word.now name.now) w.old w.new }
 {
-    let next = writer::write_word_field(out, at, word, TAB);
-    writer::write_word_field(out, next, name, TAB)
+    w.word_field(word, TAB);
+    w.word_field(name, TAB);
 }
 
-// Two numbers at the end of a line.
-fn write_last_two(out: &mut [u8], at: usize, first: u64, second: u64) -> usize
-    requires { at + length (line_of (digits_of first ∷ digits_of second ∷ [])) ≤ length out.old }
-    ensures { Written at (line_of (digits_of first ∷ digits_of second ∷ [])) out.old out.new result }
+// The two numbers of a bound at the end of a line.
+fn write_bound(w: &mut Writer, bound: Frac)
+    requires { Room (line_of (digits_of bound.num ∷ digits_of bound.den ∷ [])) w.old }
+    ensures { Wrote (line_of (digits_of bound.num ∷ digits_of bound.den ∷ [])) w.old w.new }
 {
-    let next = writer::write_number_field(out, at, first, TAB);
-    writer::write_number_field(out, next, second, NEWLINE)
+    w.number_field(bound.num, TAB);
+    w.number_field(bound.den, NEWLINE);
 }
 
-// `load` NAME L t, of the part with this name and bound.
-pub fn write_load(file: &[u8], name: Span, bound: Frac, out: &mut [u8], at: usize) -> usize
-    requires { at + length (load_line (named (bytes_of file.now name) bound)) ≤ length out.old }
-    ensures { Written at (load_line (named (bytes_of file.now name) bound)) out.old out.new result }
-{
-    let next = write_head(out, at, b"load", stretch::bytes(file, name));
-    write_last_two(out, next, bound.num, bound.den)
-}
-
-// `share` NAME P Q X L t.
-fn write_share_line(out: &mut [u8], at: usize, name: &[u8], row: Row, bound: Frac) -> usize
-    requires { at + length (share_line (bare name.now row bound)) ≤ length out.old }
-    ensures { Written at (share_line (bare name.now row bound)) out.old out.new result }
-{
-    let behind_name = write_head(out, at, b"share", name);
-    let behind_period = writer::write_number_field(out, behind_name, row.period, TAB);
-    let behind_budget = writer::write_number_field(out, behind_period, row.budget, TAB);
-    let behind_holding = writer::write_number_field(out, behind_budget, row.holding, TAB);
-    write_last_two(out, behind_holding, bound.num, bound.den)
-}
-
-// `ceiling` LOCK NUMBER.
-fn write_ceiling(out: &mut [u8], at: usize, lock: &[u8], number: u64) -> usize
-    requires { at + length (ceiling_line (record { lock = lock.now; number = number })) ≤ length out.old }
-    ensures { Written at (ceiling_line (record { lock = lock.now; number = number })) out.old out.new result }
-{
-    let next = write_head(out, at, b"ceiling", lock);
-    writer::write_number_field(out, next, number, NEWLINE)
-}
-
-// A `ceiling` line for each lock; the ceilings stand from the place `first` on.
-fn write_ceilings(
-    file: &[u8],
-    locks: Names,
-    ceilings: &[u64; CEILING_PLACES],
-    first: usize,
-    out: &mut [u8],
-    at: usize,
-) -> usize
-    requires fine_locks { FineLocks locks first }
-    requires locks_in_bounds { at + length (ceiling_lines (ceilings_under (setting_from ceilings.now first) 1 (names_of file.now locks))) ≤ length out.old }
-    ensures { Written at (ceiling_lines (ceilings_under (setting_from ceilings.now first) 1 (names_of file.now locks))) out.old out.new result }
-{
-    let n = locks.count;
-    let span = locks.span;
-    let mut next = at;
-    let mut i = 0;
-    while i < n {
-        let lock = span[i];
-        let number = ceilings[first + i];
-        next = write_ceiling(out, next, stretch::bytes(file, lock), number);
-        i += 1;
-    }
-    next
-}
-
-// All lines of a part: its `share` line, and a `ceiling` line for each lock.
-pub fn write_share(
-    file: &[u8],
-    name: Span,
-    row: Row,
-    bound: Frac,
-    locks: Names,
-    ceilings: &[u64; CEILING_PLACES],
-    first: usize,
-    out: &mut [u8],
-    at: usize,
-) -> usize
-    requires fine_locks { FineLocks locks first }
-    requires bound_in_bounds { at + length (share_lines (share_under (bytes_of file.now name) (names_of file.now locks) (setting_from ceilings.now first) row bound)) ≤ length out.old }
-    ensures { Written at (share_lines (share_under (bytes_of file.now name) (names_of file.now locks) (setting_from ceilings.now first) row bound)) out.old out.new result }
-{
-    let next = write_share_line(out, at, stretch::bytes(file, name), row, bound);
-    write_ceilings(file, locks, ceilings, first, out, next)
-}
-
-// `refused` NUMBER PLACE.
-pub fn write_refusal(number: u64, place: u64, out: &mut [u8], at: usize) -> usize
-    requires { at + length (refused_line number place) ≤ length out.old }
-    ensures { Written at (refused_line number place) out.old out.new result }
-{
-    let next = writer::write_word_field(out, at, b"refused", TAB);
-    write_last_two(out, next, number, place)
-}
-
-// How long the two numbers of a bound are at the end of a line.
+// How long these two numbers are.
 fn bound_length(bound: Frac) -> usize
     ensures { (result ≡ length (line_of (digits_of bound.num ∷ digits_of bound.den ∷ []))) × (result ≤ 42) }
 {
     writer::digit_count(bound.num) + writer::digit_count(bound.den) + 2
 }
 
-// How long the `load` line is.
-pub fn load_length(file: &[u8], name: Span, bound: Frac) -> usize
-    requires { length file.now ≤ 2 ^ 32 }
-    ensures { (result ≡ length (load_line (named (bytes_of file.now name) bound))) × (result ≤ 2 ^ 33) }
+// `ceiling` LOCK NUMBER.
+fn write_ceiling(w: &mut Writer, lock: &[u8], number: u64)
+    requires { Room (ceiling_line (record { lock = lock.now; number = number })) w.old }
+    ensures { Wrote (ceiling_line (record { lock = lock.now; number = number })) w.old w.new }
 {
-    let word = stretch::bytes(file, name);
-    6 + word.len() + bound_length(bound)
-}
-
-fn share_line_length(name: &[u8], row: Row, bound: Frac) -> usize
-    requires { length name.now ≤ 2 ^ 32 }
-    ensures { (result ≡ length (share_line (bare name.now row bound))) × (result ≤ 2 ^ 33) }
-{
-    let period = writer::digit_count(row.period);
-    let budget = writer::digit_count(row.budget);
-    let holding = writer::digit_count(row.holding);
-    10 + name.len() + period + budget + holding + bound_length(bound)
+    write_head(w, b"ceiling", lock);
+    w.number_field(number, NEWLINE);
 }
 
 fn ceiling_length(lock: &[u8], number: u64) -> usize
@@ -157,43 +58,111 @@ fn ceiling_length(lock: &[u8], number: u64) -> usize
     10 + lock.len() + writer::digit_count(number)
 }
 
-fn ceilings_length(
-    file: &[u8],
-    locks: Names,
-    ceilings: &[u64; CEILING_PLACES],
-    first: usize,
-) -> usize
-    requires fine_locks { FineLocks locks first }
-    requires file_len_bound { length file.now ≤ 2 ^ 32 }
-    ensures { (result ≡ length (ceiling_lines (ceilings_under (setting_from ceilings.now first) 1 (names_of file.now locks)))) × (result ≤ 2 ^ 36) }
+// `refused` NUMBER PLACE, from the start of the buffer on.
+pub fn write_refusal(number: u64, place: u64, out: &mut [u8]) -> usize
+    requires { length (refused_line number place) ≤ length out.old }
+    ensures { Written 0 (refused_line number place) out.old out.new result }
 {
-    let n = locks.count;
-    let span = locks.span;
-    let mut total = 0;
-    let mut i = 0;
-    while i < n {
-        let lock = span[i];
-        let number = ceilings[first + i];
-        total += ceiling_length(stretch::bytes(file, lock), number);
-        i += 1;
-    }
-    total
+    let mut w = Writer::new(out);
+    w.word_field(b"refused", TAB);
+    w.number_field(number, TAB);
+    w.number_field(place, NEWLINE);
+    w.at
 }
 
-// How long all lines of a part are.
-pub fn share_length(
-    file: &[u8],
-    name: Span,
-    row: Row,
-    bound: Frac,
-    locks: Names,
-    ceilings: &[u64; CEILING_PLACES],
-    first: usize,
-) -> usize
-    requires fine_locks { FineLocks locks first }
-    requires file_len_bound { length file.now ≤ 2 ^ 32 }
-    ensures { (result ≡ length (share_lines (share_under (bytes_of file.now name) (names_of file.now locks) (setting_from ceilings.now first) row bound))) × (result ≤ 2 ^ 37) }
-{
-    let line = share_line_length(stretch::bytes(file, name), row, bound);
-    line + ceilings_length(file, locks, ceilings, first)
+// What is printed of a part.
+// Kept: no ghost field says `FineLocks` and `Short`, as `write` asks for the first alone and `load_length` for the second alone, and a type would ask both of both.
+#[derive(Clone, Copy)]
+pub struct ShareLines<'a> {
+    pub name: &'a [u8],
+    pub row: Row,
+    pub bound: Frac,
+    // Its locks' names, in the file, and a ceiling for each.
+    pub file: &'a [u8],
+    pub locks: &'a Names,
+    pub ceilings: &'a [u64],
+}
+
+impl ShareLines<'_> {
+    // `load` NAME L t.
+    pub fn write_load(&self, w: &mut Writer)
+        requires { Room (load_line (printed self.now)) w.old }
+        ensures { Wrote (load_line (printed self.now)) w.old w.new }
+    {
+        write_head(w, b"load", self.name);
+        write_bound(w, self.bound);
+    }
+
+    // `share` NAME P Q X L t.
+    fn write_share(&self, w: &mut Writer)
+        requires { Room (share_line (printed self.now)) w.old }
+        ensures { Wrote (share_line (printed self.now)) w.old w.new }
+    {
+        write_head(w, b"share", self.name);
+        w.number_field(self.row.period, TAB);
+        w.number_field(self.row.budget, TAB);
+        w.number_field(self.row.holding, TAB);
+        write_bound(w, self.bound);
+    }
+
+    // A `ceiling` line for each lock.
+    fn write_ceilings(&self, w: &mut Writer)
+        requires fine_locks { FineLocks self.now }
+        requires room { Room (ceiling_lines (printed self.now).ceilings) w.old }
+        ensures { Wrote (ceiling_lines (printed self.now).ceilings) w.old w.new }
+    {
+        for (i, lock) in self.locks.span[..self.locks.count].iter().enumerate() {
+            write_ceiling(w, stretch::bytes(self.file, *lock), self.ceilings[i]);
+        }
+    }
+
+    // All lines of the part: its `share` line, then the `ceiling` lines.
+    pub fn write(&self, w: &mut Writer)
+        requires fine_locks { FineLocks self.now }
+        requires room { Room (share_lines (printed self.now)) w.old }
+        ensures { Wrote (share_lines (printed self.now)) w.old w.new }
+    {
+        self.write_share(w);
+        self.write_ceilings(w);
+    }
+
+    // Kept: each length stands beside what is written; one function for both would need a trait of sinks with contracts of its own, and be no plainer.
+    // How long the `load` line is.
+    pub fn load_length(&self) -> usize
+        requires { Short self.now }
+        ensures { (result ≡ length (load_line (printed self.now))) × (result ≤ 2 ^ 33) }
+    {
+        6 + self.name.len() + bound_length(self.bound)
+    }
+
+    fn share_length(&self) -> usize
+        requires { Short self.now }
+        ensures { (result ≡ length (share_line (printed self.now))) × (result ≤ 2 ^ 33) }
+    {
+        let period = writer::digit_count(self.row.period);
+        let budget = writer::digit_count(self.row.budget);
+        let holding = writer::digit_count(self.row.holding);
+        10 + self.name.len() + period + budget + holding + bound_length(self.bound)
+    }
+
+    fn ceilings_length(&self) -> usize
+        requires fine_locks { FineLocks self.now }
+        requires short { Short self.now }
+        ensures { (result ≡ length (ceiling_lines (printed self.now).ceilings)) × (result ≤ 2 ^ 36) }
+    {
+        let mut total = 0;
+        for (i, lock) in self.locks.span[..self.locks.count].iter().enumerate() {
+            total += ceiling_length(stretch::bytes(self.file, *lock), self.ceilings[i]);
+        }
+        total
+    }
+
+    // How long all lines of the part are.
+    pub fn length(&self) -> usize
+        requires fine_locks { FineLocks self.now }
+        requires short { Short self.now }
+        ensures { (result ≡ length (share_lines (printed self.now))) × (result ≤ 2 ^ 37) }
+    {
+        self.share_length() + self.ceilings_length()
+    }
 }

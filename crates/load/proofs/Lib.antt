@@ -1,5 +1,6 @@
 pub mod Equal
 pub mod Load
+pub mod Position
 pub mod Costing
 pub mod LeastRatio
 pub mod BoundBy

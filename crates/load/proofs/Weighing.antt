@@ -1,6 +1,8 @@
 -- The answers of weighing, by the questions in order, and the numbers of the answer.
 -- Assumes nothing.
-use Prim.Native.Nat.{ℕ, suc, ◌-◌, ◌≤◌, ◌<◌}
+use Rattle.std.specs.Prelude.{Some, None}
+use Rattle.std.specs.List.{position}
+use Prim.Native.Nat.{ℕ, suc, ◌+◌, ◌≤◌, ◌<◌}
 use native.Mathlib.Omega.{arith}
 use mathlib.Core.Path.{◌≡◌, refl, sym, ap, ◌∙◌}
 use mathlib.Core.Bool.{Bool, true, false, not, ◌&&◌}
@@ -15,7 +17,7 @@ use Rattle.least.proofs.Along.{along_at}
 use Rattle.least.proofs.First.{first_every, first_not_every, first_greatest, every_place}
 use Rattle.least.proofs.Fraction.{FirstGreatest, first_if_any}
 use Rattle.least.proofs.Members.{get_d_any}
-use Rattle.least.proofs.Pad.{length_pad, get_d_pad, take_pad}
+use Rattle.least.proofs.Pad.{get_d_pad, take_pad}
 use Rattle.refusal.specs.declared.Outcome.{Outcome}
 use Rattle.refusal.specs.declared.Outcome.TheVariants.{Done, Refused}
 use Rattle.refusal.specs.declared.Refusal.TheVariants.{BadHandSet, NoTime}
@@ -25,11 +27,11 @@ use Rattle.refusal.proofs.Questions.{yes_next, no_answers, done_iff}
 use Rattle.refusal.specs.Questions.{first_no}
 use Rattle.load.specs.declared.Row.{Row}
 use Rattle.load.specs.declared.Rows.{Rows}
-use Rattle.load.specs.declared.Weighed.{Weighed}
 use Rattle.load.specs.Load.{bound_of, bounds_of, load_of, load_row}
 use Rattle.load.specs.Weigh.{row_in_range, has_time, weigh_questions, weighed, weigh_of, rows_of, struct_questions, weigh_rows}
 use Rattle.load.specs.Code.Rows.{no_row, no_frac, InRange, FineBound, FineBounds}
 use Rattle.load.proofs.Load.{bound_of_ok, bound_of_small, bounds_of-length}
+use Rattle.load.proofs.Position.{place_is, none_is}
 use Rattle.load.proofs.InRange.{in_range_fine}
 
 -- the answer to each outcome of the questions
@@ -85,9 +87,10 @@ module _ (rows : Rows) where
     right : right_count (rows_of rows) ≡ true
     right = few_rows (rows_of rows) (omega (arith, rows_count)) (omega (arith, rows_count))
 
-    pub weigh_bad : (k : ℕ) → k ≡ first_of (λ r. not (row_in_range r)) (rows_of rows) → 0 < k → weigh_rows rows ≡ weighed (Refused (BadHandSet k)) []
-    weigh_bad k e h =
-        weigh_few few ∙ bad_row (rows_of rows) right (first_not_every row_in_range (rows_of rows) no_row (omega arith)) ∙ ap (λ (i : ℕ). weighed (Refused (BadHandSet i)) []) (sym e)
+    pub weigh_bad : (k : ℕ) → position (λ r. not (row_in_range r)) (rows_of rows) ≡ Some k → weigh_rows rows ≡ weighed (Refused (BadHandSet (k + 1))) []
+    weigh_bad k e =
+        let n : k + 1 ≡ first_of (λ r. not (row_in_range r)) (rows_of rows) = place_is _ _ e in
+        weigh_few few ∙ bad_row (rows_of rows) right (first_not_every row_in_range (rows_of rows) no_row (omega arith)) ∙ ap (λ (i : ℕ). weighed (Refused (BadHandSet i)) []) (sym n)
 
 -- rows that pass question 12
 module _ (rows : Rows) (i : InRange rows) where
@@ -98,15 +101,16 @@ module _ (rows : Rows) (i : InRange rows) where
   unfolding rows_of
   every_row = every_place no_row row_in_range (rows_of rows) (λ k h. let l : k < rows.count = omega (arith, count) in rw (get_or-take rows.count rows.rows k no_row l) (i.each k l))
 
-  pub weigh_late : (k : ℕ) → k ≡ first_of (λ b. not (has_time b)) (bounds_of (rows_of rows)) → 0 < k → weigh_of (rows_of rows) ≡ weighed (Refused (NoTime k)) []
-  weigh_late k e h =
-      late_row (rows_of rows) (right rows i.some i.few i.room) every_row (first_not_every has_time (bounds_of (rows_of rows)) no_frac (omega arith)) ∙ ap (λ (j : ℕ). weighed (Refused (NoTime j)) []) (sym e)
+  pub weigh_late : (k : ℕ) → position (λ b. not (has_time b)) (bounds_of (rows_of rows)) ≡ Some k → weigh_of (rows_of rows) ≡ weighed (Refused (NoTime (k + 1))) []
+  weigh_late k e =
+      let n : k + 1 ≡ first_of (λ b. not (has_time b)) (bounds_of (rows_of rows)) = place_is _ _ e in
+      late_row (rows_of rows) (right rows i.some i.few i.room) every_row (first_not_every has_time (bounds_of (rows_of rows)) no_frac (omega arith)) ∙ ap (λ (j : ℕ). weighed (Refused (NoTime j)) []) (sym n)
 
-  pub weigh_done : first_of (λ b. not (has_time b)) (bounds_of (rows_of rows)) ≡ 0 → weigh_of (rows_of rows) ≡ weighed Done (rows_of rows)
-  weigh_done e = all_done (rows_of rows) (right rows i.some i.few i.room) every_row (first_every has_time (bounds_of (rows_of rows)) e)
+  pub weigh_done : position (λ b. not (has_time b)) (bounds_of (rows_of rows)) ≡ None → weigh_of (rows_of rows) ≡ weighed Done (rows_of rows)
+  weigh_done e = all_done (rows_of rows) (right rows i.some i.few i.room) every_row (first_every has_time (bounds_of (rows_of rows)) (none_is _ _ e))
 
   -- the bounds in their places
-  bounds_count : length (bounds_of (rows_of rows)) ≡ rows.count
+  pub bounds_count : length (bounds_of (rows_of rows)) ≡ rows.count
   bounds_count = bounds_of-length (rows_of rows) ∙ count
 
   pub bounds_take : take rows.count (pad 16 no_frac (bounds_of (rows_of rows))) ≡ bounds_of (rows_of rows)
@@ -121,27 +125,31 @@ module _ (rows : Rows) (i : InRange rows) where
       let small = bound_of_small (reverse (take k R)) (get_or rows.rows k no_row) (drop (suc k) R) f.period_some in
       rw e (record { some = (bound_of_ok _ _ _).some; num_most = omega (arith, f.period_most); den_most = omega (arith, f.period_most) })
 
-  pub bounds_fine : FineBounds (pad 16 no_frac (bounds_of (rows_of rows))) rows.count
-  bounds_fine = record { room = omega (arith, length_pad 16 no_frac (bounds_of (rows_of rows)), i.few); each = bound_at }
+  pub bounds_fine : FineBounds (bounds_of (rows_of rows))
+  bounds_fine = rw bounds_take at fine
+    where
+      fine : FineBounds (take rows.count (pad 16 no_frac (bounds_of (rows_of rows))))
+      fine = record { each = λ k h. let l : k < rows.count = omega (arith, length-take rows.count (pad 16 no_frac (bounds_of (rows_of rows)))) in rw (get_or-take rows.count (pad 16 no_frac (bounds_of (rows_of rows))) k no_frac l) (bound_at k l) }
 
   -- the row of the load
   first : (j : ℕ) × FirstGreatest (bounds_of (rows_of rows)) j
   first = first_if_any (bounds_of (rows_of rows)) (omega (arith, bounds_count, i.some))
 
-  pub load_place : (k : ℕ) → k ≡ load_row (rows_of rows) → (1 ≤ k) × (k ≤ 16) × (get_or (pad 16 no_frac (bounds_of (rows_of rows))) (k - 1) no_frac ≡ load_of (rows_of rows))
-  unfolding load_row load_of
-  load_place k e =
-      let B = bounds_of (rows_of rows) in
-      let j = first.0 in
-      let f = first.1 in
-      let q : k ≡ suc j = e ∙ first_greatest B j f in
-      let p : k - 1 ≡ j = omega arith in
-      let l : j < length B = f.within in
-      (omega arith, omega (arith, bounds_count, i.few), rw p (get_d_pad 16 no_frac B j (omega (arith, bounds_count, i.few)) ∙ get_d_any B j _ _ l ∙ f.value))
+  -- the row at the place j reaches the load
+  module _ (j : ℕ) (is : j + 1 ≡ load_row (rows_of rows)) where
+    pub load_place : j < 16
+    unfolding load_row load_of
+    load_place = omega (arith, first_greatest (bounds_of (rows_of rows)) first.0 first.1, first.1.within, bounds_count, i.few)
 
-  abbrev answer : List Frac → Frac → ℕ → Weighed
-  answer bounds load k = record { outcome = Done; bounds = bounds; load = load; row = k }
+    load_at_place : get_or (pad 16 no_frac (bounds_of (rows_of rows))) j no_frac ≡ load_of (rows_of rows)
+    unfolding load_row load_of
+    load_at_place =
+        let B = bounds_of (rows_of rows) in
+        let l : first.0 < length B = first.1.within in
+        let e : j ≡ first.0 = omega (arith, first_greatest B first.0 first.1) in
+        rw e (get_d_pad 16 no_frac B first.0 (omega (arith, bounds_count, i.few)) ∙ get_d_any B first.0 _ _ l ∙ first.1.value)
 
-  pub weigh_answer : (bounds : List Frac) (load : Frac) (k : ℕ) → bounds ≡ pad 16 no_frac (bounds_of (rows_of rows)) → load ≡ load_of (rows_of rows) → k ≡ load_row (rows_of rows) → first_of (λ b. not (has_time b)) (bounds_of (rows_of rows)) ≡ 0 → answer bounds load k ≡ weigh_of (rows_of rows)
-  unfolding weighed
-  weigh_answer bounds load k b l r e = rw (b, l, r) (sym (weigh_done e))
+    pub weigh_answer : (bounds : List Frac) → bounds ≡ pad 16 no_frac (bounds_of (rows_of rows)) → position (λ b. not (has_time b)) (bounds_of (rows_of rows)) ≡ None
+        → record { outcome = Done; bounds = bounds; load = get_or bounds j no_frac; row = j + 1 } ≡ weigh_of (rows_of rows)
+    unfolding weighed
+    weigh_answer bounds b e = rw (b, load_at_place, is) (sym (weigh_done e))

@@ -1,3 +1,4 @@
 pub mod Weigh
+pub mod Columns
 pub mod ByColumn
 pub mod Rows

@@ -9,7 +9,7 @@ use lib.ListN.{length}
 use borrow.Author.Tests.{ltb-true, lt-ltb}
 use Rattle.least.specs.Each.{Each, none, more}
 use Rattle.least.specs.Lists.{sum, some, is_empty, count_from}
-use Rattle.least.proofs.Lists.{some_none, not_empty, map_iff, count_from_lem}
+use Rattle.least.proofs.Lists.{some_none, map_iff, count_from_lem}
 use Rattle.least.proofs.Search.{least_iff}
 use Rattle.envelope.specs.Code.Envelope.{slope_scale}
 use Rattle.task_set.specs.Code.Tasks.{tasks_of}
@@ -25,14 +25,13 @@ use Rattle.selection.specs.Selection.{choices}
 use Rattle.selection.proofs.Selection.{Picks, choices_iff}
 use Rattle.candidates.specs.declared.Pair.{Pair}
 use Rattle.candidates.specs.Statement.{Candidate}
-use Rattle.candidates.specs.Code.KeptSearch.{has_pair}
 use Rattle.candidates.proofs.Candidates.{kept_iff}
 use Rattle.reader.specs.declared.PlanFile.{PlanFile}
 use Rattle.answers.specs.Parts.{kept_rows}
 use Rattle.offers.specs.Code.Gathered.{part_in, list_in, FineParts, utilisations, is_over}
 use Rattle.offers.proofs.ByPlace.{part_rows, rows_in}
 
-is_empty_lem : (cs : List Pair) → not (is_empty cs) ≡ false → length cs ≡ 0
+pub is_empty_lem : (cs : List Pair) → not (is_empty cs) ≡ false → length cs ≡ 0
 unfolding is_empty
 is_empty_lem [] e = refl
 is_empty_lem (c ∷ cs) e = absurd (false≢true (sym e))
@@ -50,23 +49,12 @@ module _ (f : PlanFile) where
   unfolding shares_from
   from_0 = let e : f.count - 0 ≡ f.count = omega arith in rw e refl
 
-  shares_all : (share k : ℕ) → k ≡ f.count → share + shares_from k ≡ shares_from 0 → share ≡ sum (utilisations f f.count)
-  unfolding shares_from count_from sum
-  shares_all share k q e = let z : f.count - k ≡ 0 = omega arith in omega (arith, rw z at e, from_0)
-
   -- the shares of all parts are more than the processor
-  pub shares_over : (share k : ℕ) → k ≡ f.count → share + shares_from k ≡ shares_from 0 → slope_scale < share → is_over f ≡ true
-  unfolding is_over
-  shares_over share k q e h = lt-ltb slope_scale (sum (utilisations f f.count)) (omega (arith, shares_all share k q e))
-
-  -- whether the part at the place k has a kept pair
-  pub pair_some : (k : ℕ) → has_pair (partition_of (part_in f k)) ≡ true → 1 ≤ length (list_in f k)
-  unfolding has_pair
-  pair_some k e = not_empty (list_in f k) e
-
-  pub pair_none : (k : ℕ) → has_pair (partition_of (part_in f k)) ≡ false → length (list_in f k) ≡ 0
-  unfolding has_pair
-  pair_none k e = is_empty_lem (list_in f k) e
+  pub shares_over : (share k : ℕ) → f.count ≤ k → share + shares_from k ≡ shares_from 0 → slope_scale < share → is_over f ≡ true
+  unfolding is_over shares_from count_from sum
+  shares_over share k q e h =
+      let z : f.count - k ≡ 0 = omega arith in
+      lt-ltb slope_scale (sum (utilisations f f.count)) (omega (arith, rw z at e, from_0))
 
 module _ (f : PlanFile) (fine : FineParts f) where
   tasks_in_range : (k : ℕ) → k < f.count → InRange (tasks_of (part_in f k))

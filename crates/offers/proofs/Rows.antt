@@ -21,6 +21,7 @@ use Rattle.candidates.specs.Candidates.{pair}
 use Rattle.candidates.proofs.Candidates.{kept_iff}
 use Rattle.candidates.proofs.Walk.{Behind, kept_ordered}
 use Rattle.candidates.proofs.Turn.{candidate_small}
+use Rattle.selection.specs.declared.Offers.{Offers}
 use Rattle.reader.specs.declared.PlanFile.{PlanFile}
 use Rattle.answers.specs.Parts.{kept_rows}
 use Rattle.offers.specs.Code.Gathered.{part_in, list_in, FineParts, OfferedAt}
@@ -34,26 +35,26 @@ neighbours d (x ∷ []) p i h = absurd (omega arith)
 neighbours d (x ∷ y ∷ xs) (Pairwise.more r p) zero h = r y (Memᴰ.head refl)
 neighbours d (x ∷ y ∷ xs) (Pairwise.more r p) (suc i) h = neighbours d (y ∷ xs) p i (omega arith)
 
-module _ (f : PlanFile) (fine : FineParts f) (periods counts budgets holdings : List ℕ) (all : (k : ℕ) → k < f.count → OfferedAt f periods counts budgets holdings k) where
+module _ (f : PlanFile) (fine : FineParts f) (o : Offers) (count : o.count ≡ f.count) (all : (k : ℕ) → k < f.count → OfferedAt f o k) where
   -- the row at a place
-  offer_is : (k i : ℕ) → k < f.count → i < length (list_in f k) → offer_at periods budgets holdings k i ≡ row (part_in f k).period (get_or (list_in f k) i (pair 0 0)).budget (get_or (list_in f k) i (pair 0 0)).holding
+  offer_is : (k i : ℕ) → k < f.count → i < length (list_in f k) → offer_at o k i ≡ row (part_in f k).period (get_or (list_in f k) i (pair 0 0)).budget (get_or (list_in f k) i (pair 0 0)).holding
   offer_is k i h l =
-      let o = all k h in
-      λ j. record { period = o.period j; budget = o.budgets_are i l j; holding = o.holdings_are i l j }
+      let at = all k h in
+      λ j. record { period = at.period j; budget = at.budgets_are i l j; holding = at.holdings_are i l j }
 
-  part_offers : (k : ℕ) → k < f.count → map (offer_at periods budgets holdings k) (count_from 0 (get_or counts k 0)) ≡ part_rows f k
+  part_offers : (k : ℕ) → k < f.count → map (offer_at o k) (count_from 0 (get_or o.counts k 0)) ≡ part_rows f k
   unfolding kept_rows
   part_offers k h =
       rw (all k h).count
       (ext_get_or (row (part_in f k).period 0 0) _ _
-      (column_length (offer_at periods budgets holdings k) (length (list_in f k)) ∙ sym (length-map (list_in f k) _))
+      (column_length (offer_at o k) (length (list_in f k)) ∙ sym (length-map (list_in f k) _))
       (λ i l.
-      let m : i < length (list_in f k) = omega (arith, column_length (offer_at periods budgets holdings k) (length (list_in f k))) in
-      column_get (offer_at periods budgets holdings k) (row (part_in f k).period 0 0) i (length (list_in f k)) m ∙ offer_is k i h m ∙ sym (get_or-map (λ c. row (part_in f k).period c.budget c.holding) (list_in f k) i (pair 0 0))))
+      let m : i < length (list_in f k) = omega (arith, column_length (offer_at o k) (length (list_in f k))) in
+      column_get (offer_at o k) (row (part_in f k).period 0 0) i (length (list_in f k)) m ∙ offer_is k i h m ∙ sym (get_or-map (λ c. row (part_in f k).period c.budget c.holding) (list_in f k) i (pair 0 0))))
 
-  pub offers_are : offers_of periods budgets holdings counts f.count ≡ rows_in f
+  pub offers_are : offers_of o ≡ rows_in f
   unfolding offers_of
-  offers_are = map_same _ _ (count_from 0 f.count) (λ k m. part_offers k (omega (arith, (count_from_lem f.count 0 k m).1)))
+  offers_are = rw count (map_same _ _ (count_from 0 f.count) (λ k m. part_offers k (omega (arith, (count_from_lem f.count 0 k m).1))))
 
   -- a kept pair's numbers
   kept_fine : (k i : ℕ) → (h : k < f.count) → i < length (list_in f k) → FineRow (row (part_in f k).period (get_or (list_in f k) i (pair 0 0)).budget (get_or (list_in f k) i (pair 0 0)).holding)
@@ -66,19 +67,22 @@ module _ (f : PlanFile) (fine : FineParts f) (periods counts budgets holdings : 
   in_order : (k i : ℕ) → k < f.count → suc i < length (list_in f k) → Behind (get_or (list_in f k) i (pair 0 0)) (get_or (list_in f k) (suc i) (pair 0 0))
   in_order k i h l = neighbours (pair 0 0) (list_in f k) (kept_ordered (partition_of (part_in f k))) i l
 
-  pub offers_fine : 1 ≤ f.count → FineOffers periods budgets holdings counts f.count
+  pub offers_fine : 1 ≤ f.count → FineOffers o
   offers_fine some = record {
-    some = some;
-    few = fine.few;
-    counts_some = λ k h. omega (arith, (all k h).count, (all k h).some);
-    counts_most = λ k h. omega (arith, (all k h).count, list_most f fine k h);
-    fine = λ k i h l. let m : i < length (list_in f k) = omega (arith, (all k h).count) in rw (offer_is k i h m) (kept_fine k i h m);
-    falls = λ k i h l.
-        let m : suc i < length (list_in f k) = omega (arith, (all k h).count) in
-        let o = in_order k i h m in
-        omega (arith, (all k h).holdings_are i (omega arith), (all k h).holdings_are (suc i) m, o.holding);
-    rises = λ k i h l.
-        let m : suc i < length (list_in f k) = omega (arith, (all k h).count) in
-        let o = in_order k i h m in
-        omega (arith, (all k h).holdings_are i (omega arith), (all k h).holdings_are (suc i) m, (all k h).budgets_are i (omega arith), (all k h).budgets_are (suc i) m, o.sum);
+    some = omega (arith, count);
+    few = omega (arith, count, fine.few);
+    counts_some = λ k h. let l : k < f.count = omega (arith, count) in omega (arith, (all k l).count, (all k l).some);
+    counts_most = λ k h. let l : k < f.count = omega (arith, count) in omega (arith, (all k l).count, list_most f fine k l);
+    fine = λ k i h m.
+        let l : k < f.count = omega (arith, count) in
+        let n : i < length (list_in f k) = omega (arith, (all k l).count) in
+        rw (offer_is k i l n) (kept_fine k i l n);
+    falls = λ k i h m.
+        let l : k < f.count = omega (arith, count) in
+        let n : suc i < length (list_in f k) = omega (arith, (all k l).count) in
+        omega (arith, (all k l).holdings_are i (omega arith), (all k l).holdings_are (suc i) n, (in_order k i l n).holding);
+    rises = λ k i h m.
+        let l : k < f.count = omega (arith, count) in
+        let n : suc i < length (list_in f k) = omega (arith, (all k l).count) in
+        omega (arith, (all k l).holdings_are i (omega arith), (all k l).holdings_are (suc i) n, (all k l).budgets_are i (omega arith), (all k l).budgets_are (suc i) n, (in_order k i l n).sum);
   }

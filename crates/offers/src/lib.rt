@@ -1,42 +1,39 @@
-// The kept lists of all parts of a file, as rows to choose from: the pair at the place i of the part k, both from 0, at KEPT_LIMIT × k + i.
+// The kept lists of all parts of a file, as rows to choose from, and the rows of least load.
 #![tactic(auto)]
 
-ghost use Rattle.std.specs.Prelude.{◌≡◌, true, ◌*◌, ◌≤◌, ◌<◌, length};
-ghost use Rattle.least.specs.Code.Stored.{Stored};
+ghost use Rattle.std.specs.Prelude.{◌≡◌, true, not, ◌≤◌, ◌<◌, length, take, position, Err};
 ghost use Rattle.refusal.specs.Limits.{part_limit, kept_limit};
-ghost use Rattle.refusal.specs.Code.Limits.{offer_places};
-ghost use Rattle.load.specs.Code.ByColumn.{rows_by, FineColumns};
+ghost use Rattle.task_set.specs.Code.Partition.{partition_of};
+ghost use Rattle.load.specs.Code.ByColumn.{rows_by};
 ghost use Rattle.load.specs.Code.Weigh.{rows_from};
+ghost use Rattle.candidates.specs.Code.KeptSearch.{has_pair};
 ghost use Rattle.answers.specs.Plan.{chosen_rows};
-ghost use Rattle.offers.specs.Code.Gathered.{FineParts, budget_in, holding_in, MissingIs, is_over};
-ghost use Rattle.offers.specs.Code.Least.{no_rows, partitions_in, plan_rows_from};
+ghost use Rattle.offers.specs.Code.Gathered.{FineParts, OfferRoom, StoredAt, is_over};
+ghost use Rattle.offers.specs.Code.Least.{partitions_in, plan_rows_from};
 
 use candidates::Kept;
 use envelope::SCALE;
-use load::{Row, Rows};
+use load::{Row, RowColumns, Rows};
 use reader::PlanFile;
-use refusal::{KEPT_LIMIT, OFFER_PLACES, Outcome, Refusal};
+use refusal::{KEPT_LIMIT, OFFER_PLACES, Refusal};
+use selection::Offers;
 
-// The pairs of the part k at its places.
-fn store(kept: Kept, k: usize, budgets: &mut [u64], holdings: &mut [u64])
-    requires { (k < part_limit) × (kept.count ≤ kept_limit) × (length budgets.old ≡ offer_places) × (length holdings.old ≡ offer_places) }
-    ensures { Stored (budget_in kept) (kept_limit * k) kept.count budgets.old budgets.new × Stored (holding_in kept) (kept_limit * k) kept.count holdings.old holdings.new }
+// The part at the place k, from 0, offers its period and the pairs of its kept list.
+fn store(offers: &mut Offers, k: usize, period: u64, kept: &Kept)
+    requires { (k < part_limit) × (kept.now.count ≤ kept_limit) × OfferRoom offers.old }
+    ensures { StoredAt k period kept.now offers.old offers.new }
 {
-    let n = kept.count;
-    let mut i = 0;
-    while i < n {
-        let pair = kept.pairs[i];
-        let at = KEPT_LIMIT * k + i;
-        budgets[at] = pair.budget;
-        holdings[at] = pair.holding;
-        i += 1;
+    offers.periods[k] = period;
+    offers.counts[k] = kept.count;
+    for (i, pair) in kept.pairs[..kept.count].iter().enumerate() {
+        offers.budgets[KEPT_LIMIT * k + i] = pair.budget;
+        offers.holdings[KEPT_LIMIT * k + i] = pair.holding;
     }
 }
 
 // The rows of a choice, from what each costs and how long it holds.
-fn rows_by(periods: &[u64; 16], sums: &[u64; 16], holdings: &[u64; 16], n: usize) -> Rows
-    requires { FineColumns periods.now sums.now holdings.now n }
-    ensures { result ≡ rows_from (rows_by periods.now sums.now holdings.now n) n }
+fn rows_by(chosen: &RowColumns) -> Rows
+    ensures { result ≡ rows_from (rows_by chosen.now) chosen.now.workload.count }
 {
     let none = Row {
         period: 0,
@@ -44,117 +41,70 @@ fn rows_by(periods: &[u64; 16], sums: &[u64; 16], holdings: &[u64; 16], n: usize
         holding: 0,
     };
     let mut rows = [none; 16];
-    let mut k = 0;
-    while k < n {
+    for k in 0..chosen.workload.count {
         rows[k] = Row {
-            period: periods[k],
-            budget: sums[k] - holdings[k],
-            holding: holdings[k],
+            period: chosen.workload.periods[k],
+            budget: chosen.workload.costs[k] - chosen.holdings[k],
+            holding: chosen.holdings[k],
         };
-        k += 1;
     }
-    Rows { rows, count: n }
+    Rows {
+        rows,
+        count: chosen.workload.count,
+    }
 }
 
-// The rows of the plan, or the refusal.
-#[derive(Clone, Copy)]
-pub struct PlanRows {
-    pub outcome: Outcome,
-    pub rows: Rows,
-}
-
-// A refusal, and no rows.
-pub fn no_rows(r: Refusal) -> PlanRows
-    ensures { result ≡ no_rows r }
+// The place of the first part without a kept pair, from 0.
+fn first_missing(f: &PlanFile) -> Option<usize>
+    requires { FineParts f.now }
+    ensures { result ≡ position (λ p. not (has_pair (partition_of p.part))) (take f.now.count f.now.parts) }
 {
-    let none = Row {
-        period: 0,
-        budget: 0,
-        holding: 0,
-    };
-    PlanRows {
-        outcome: Outcome::Refused(r),
-        rows: Rows {
-            rows: [none; 16],
-            count: 0,
-        },
-    }
+    f.parts[..f.count]
+        .iter()
+        .position(|p| !candidates::has_pair(&p.part))
 }
 
-// The number of the first part without a kept pair, from 1; 0 where each has one.
-fn first_missing(f: PlanFile) -> usize
-    requires { FineParts f }
-    ensures { MissingIs f result }
+// The no among questions 10 and 11 where the parts ask for more than the processor: no kept list is needed.
+fn refusal_of_over(f: &PlanFile) -> Refusal
+    requires { FineParts f.now × (is_over f.now ≡ true) }
+    ensures { Err result ≡ plan_rows_from (chosen_rows (partitions_in f.now)) }
 {
-    let mut k = 0;
-    while k < f.count {
-        let p = f.parts[k];
-        let part = p.part;
-        if !candidates::has_pair(part) {
-            return k + 1;
-        }
-        k += 1;
+    match first_missing(f) {
+        Some(k) => Refusal::NoBudget(k as u64 + 1),
+        None => Refusal::NoChoice,
     }
-    0
-}
-
-// Questions 10 and 11 where the parts ask for more than the processor: no kept list is needed.
-fn over_rows(f: PlanFile) -> PlanRows
-    requires { FineParts f × (is_over f ≡ true) }
-    ensures { result ≡ plan_rows_from (chosen_rows (partitions_in f)) }
-{
-    let number = first_missing(f);
-    if 0 < number {
-        return no_rows(Refusal::NoBudget(number as u64));
-    }
-    no_rows(Refusal::NoChoice)
 }
 
 // Questions 10 and 11 of a file that was read, and the rows of least load. That the tasks of all parts together ask for no more than the processor is looked at
-// first; the kept lists are gathered in arrays that stand here, as a function or a struct of their own would copy the file or the lists.
-pub fn plan_rows(f: PlanFile) -> PlanRows
-    requires { FineParts f × (1 ≤ f.count) }
-    ensures { result ≡ plan_rows_from (chosen_rows (partitions_in f)) }
+// first.
+pub fn plan_rows(f: &PlanFile) -> Result<Rows, Refusal>
+    requires { FineParts f.now × (1 ≤ f.now.count) }
+    ensures { result ≡ plan_rows_from (chosen_rows (partitions_in f.now)) }
 {
-    let n = f.count;
-    let mut share: u64 = 0;
-    let mut i = 0;
-    while i < n {
-        let p = f.parts[i];
-        share += utilisation::share_of(p.part);
-        i += 1;
+    let parts = &f.parts[..f.count];
+    let mut share = 0;
+    for p in parts {
+        share += utilisation::share_of(&p.part);
     }
     if SCALE < share {
-        return over_rows(f);
+        return Err(refusal_of_over(f));
     }
-    let mut periods = [0u64; 16];
-    let mut counts = [0usize; 16];
-    let mut budgets = [0u64; OFFER_PLACES];
-    let mut holdings = [0u64; OFFER_PLACES];
-    let mut k = 0;
-    while k < n {
-        let p = f.parts[k];
-        let part = p.part;
-        let kept = candidates::kept_of(part);
-        let count = kept.count;
-        if count == 0 {
-            let number = k + 1;
-            return no_rows(Refusal::NoBudget(number as u64));
+    let mut offers = Offers {
+        periods: [0; 16],
+        budgets: [0; OFFER_PLACES],
+        holdings: [0; OFFER_PLACES],
+        counts: [0; 16],
+        count: f.count,
+    };
+    for (k, p) in parts.iter().enumerate() {
+        let kept = candidates::kept_of(&p.part);
+        if kept.count == 0 {
+            return Err(Refusal::NoBudget(k as u64 + 1));
         }
-        store(kept, k, &mut budgets, &mut holdings);
-        periods[k] = part.period;
-        counts[k] = count;
-        k += 1;
+        store(&mut offers, k, p.part.period, &kept);
     }
-    let choice = selection::select(&periods, &budgets, &holdings, &counts, n);
-    if !choice.found {
-        return no_rows(Refusal::NoChoice);
-    }
-    let sums = choice.sums;
-    let held = choice.holdings;
-    let rows = rows_by(&periods, &sums, &held, n);
-    PlanRows {
-        outcome: Outcome::Done,
-        rows,
-    }
+    let Some(chosen) = selection::select(&offers) else {
+        return Err(Refusal::NoChoice);
+    };
+    Ok(rows_by(&chosen))
 }

@@ -4,32 +4,33 @@
 ghost use Rattle.std.specs.Prelude.{◌≡◌};
 ghost use Rattle.plan_file.specs.Code.Entries.{FineNames, part_entry};
 
-use fields::Number;
 use plan_file::{Entry, Names};
 use refusal::{PART_LIMIT, Refusal};
 use stretch::Span;
 
-pub fn ask_part(s: &[u8], line: u64, allowed: bool, parts: Names, name: Span, period: Span) -> Entry
-    requires { FineNames parts }
-    ensures { result ≡ part_entry s.now line allowed parts name period }
+pub fn ask_part(
+    s: &[u8],
+    line: u64,
+    allowed: bool,
+    parts: &Names,
+    name: Span,
+    period: Span,
+) -> Result<Entry, Refusal>
+    requires { FineNames parts.now }
+    ensures { result ≡ part_entry s.now line allowed parts.now name period }
 {
     if !allowed {
-        return Entry::Refused(Refusal::Misplaced(line));
+        return Err(Refusal::Misplaced(line));
     }
     if !fields::is_name(stretch::bytes(s, name)) {
-        return Entry::Refused(Refusal::BadName(line));
+        return Err(Refusal::BadName(line));
     }
-    let n = parts.count;
-    if plan_file::place_in(s, parts, name) < n {
-        return Entry::Refused(Refusal::KnownName(line));
+    if parts.place_in(s, name).is_some() {
+        return Err(Refusal::KnownName(line));
     }
-    match fields::read_number(stretch::bytes(s, period)) {
-        Number::Malformed => Entry::Refused(Refusal::BadNumber(line)),
-        Number::Is(p) => {
-            if PART_LIMIT <= n {
-                return Entry::Refused(Refusal::TooMany(line));
-            }
-            Entry::Part(name, p)
-        }
+    let p = fields::read_number(stretch::bytes(s, period)).ok_or(Refusal::BadNumber(line))?;
+    if PART_LIMIT <= parts.count {
+        return Err(Refusal::TooMany(line));
     }
+    Ok(Entry::Part(name, p))
 }

@@ -2,7 +2,7 @@
 // prints no answer, and where the answer cannot be written it does not end in silence: one line on standard error says so.
 #![tactic(auto)]
 
-ghost use Rattle.std.specs.Prelude.{◌≡◌, ◌+◌, ◌≤◌, ◌<◌, length, take, IfOk, IfSome, IfNone, OnOk, OnErr};
+ghost use Rattle.std.specs.Prelude.{◌≡◌, ◌+◌, ◌≤◌, ◌<◌, length, take, IfOk, IfSome, IfNone, IsNone, OnOk, OnErr};
 ghost use Rattle.std.specs.Io.KnownBytes.{Appends, Consumes, IsAtEnd, Keeps};
 ghost use Rattle.console.specs.Printed.{printed_of};
 
@@ -10,7 +10,18 @@ use refusal::FILE_LIMIT;
 use std::io::{ErrorKind, Read, Write};
 use std::{fmt, io};
 use streams::Reason;
-use stretch::Span;
+
+// What a call of read or write came to: `None` where a signal interrupted it.
+fn unless_interrupted(called: io::Result<usize>) -> io::Result<Option<usize>>
+    ensures done { IfOk called (λ n. result ≡ Ok (Some n)) }
+    ensures none { OnErr called (IfOk result IsNone) }
+{
+    match called {
+        Ok(count) => Ok(Some(count)),
+        Err(e) if e.kind() == ErrorKind::Interrupted => Ok(None),
+        Err(e) => Err(e),
+    }
+}
 
 // One call of read: how many bytes it brought, none at the end of the input; `None` where a signal interrupted it.
 fn read_some<R: Read>(input: &mut R, buf: &mut [u8]) -> io::Result<Option<usize>>
@@ -20,11 +31,7 @@ fn read_some<R: Read>(input: &mut R, buf: &mut [u8]) -> io::Result<Option<usize>
     ensures interrupted { IfOk result (λ got. IfNone got (Keeps (R.remaining input.old) (R.remaining input.new))) }
     ensures failed { OnErr result (Keeps (R.remaining input.old) (R.remaining input.new)) }
 {
-    match input.read(buf) {
-        Ok(count) => Ok(Some(count)),
-        Err(e) if e.kind() == ErrorKind::Interrupted => Ok(None),
-        Err(e) => Err(e),
-    }
+    unless_interrupted(input.read(buf))
 }
 
 // Reads until the input ends or the buffer is full, however few bytes a call brings, and answers how many bytes it put at the start of the buffer.
@@ -34,6 +41,7 @@ fn read_all<R: Read>(input: &mut R, buf: &mut [u8]) -> io::Result<usize>
     ensures whole { IfOk result (λ n. n < length buf.new → IsAtEnd (R.remaining input.new)) }
 {
     let mut done = 0;
+    // Kept: std's `read_exact` does not tell how many bytes came before the end, and its `read_to_end` takes a heap.
     // A proved loop has to end, and nothing says that an input does: no run uses up so many calls.
     for _ in 0..u64::MAX {
         if done == buf.len() {
@@ -59,9 +67,7 @@ fn write_some<W: Write>(out: &mut W, buf: &[u8]) -> io::Result<Option<usize>>
 {
     match out.write(buf) {
         Ok(0) => Err(io::Error::from(ErrorKind::WriteZero)),
-        Ok(count) => Ok(Some(count)),
-        Err(e) if e.kind() == ErrorKind::Interrupted => Ok(None),
-        Err(e) => Err(e),
+        put => unless_interrupted(put),
     }
 }
 
@@ -70,6 +76,7 @@ fn write_all<W: Write>(out: &mut W, buf: &[u8]) -> io::Result<()>
     ensures { OnOk result (Appends (W.contents out.old) (W.contents out.new) buf.now) }
 {
     let mut rest = buf;
+    // Kept: std's `write_all` has other words for a call that takes nothing, and the edit the_rest_of_a_short_write_lost is of this loop.
     // No run uses up so many calls.
     for _ in 0..u64::MAX {
         if rest.is_empty() {
@@ -88,11 +95,7 @@ fn print_plan<W: Write>(out: &mut W, file: &[u8]) -> io::Result<()>
     ensures { OnOk result (Appends (W.contents out.old) (W.contents out.new) (printed_of file.now)) }
 {
     let p = console::print(file);
-    let span = Span {
-        start: 0,
-        len: p.count,
-    };
-    write_all(out, stretch::bytes(&p.text, span))
+    write_all(out, &p.text[..p.count])
 }
 
 // Why there is no answer.

@@ -3,9 +3,10 @@
 use Prim.Native.Nat.{ℕ, ◌≤◌, ◌<◌}
 use native.Mathlib.Omega.{arith}
 use mathlib.Core.Path.{◌≡◌, refl, sym, ap, ◌∙◌, subst}
-use mathlib.Core.Bool.{Bool, true, false, ◌&&◌, false≢true}
+use mathlib.Core.Bool.{true, false, ◌&&◌}
 use mathlib.Core.List.{List, [], ◌∷◌}
 use lib.ListN.{length, length-map}
+use Rattle.std.proofs.Common.{Ok, Err}
 use Rattle.least.specs.Lists.{last_or}
 use Rattle.least.proofs.Lists.{and_iff, not_empty}
 use Rattle.text.specs.Bytes.{among, mention}
@@ -24,7 +25,7 @@ use Rattle.records.specs.Records.Record.{part, task, lock, end}
 use Rattle.records.specs.Code.Cursor.{record_as}
 use Rattle.plan_file.specs.declared.Seen.{Seen}
 use Rattle.plan_file.specs.declared.Entry.{Entry}
-use Rattle.plan_file.specs.declared.Entry.TheVariants.{Part, Task, Lock, End, Refused as RefusedEntry}
+use Rattle.plan_file.specs.declared.Entry.TheVariants.{Part, Task, Lock, End}
 use Rattle.plan_file.specs.Above.{FilePart, Above, no_part, this_part, this_task, lock_names}
 use Rattle.plan_file.specs.Reading.{not_behind_end, not_behind_part, part_above, task_above, allowed_here, record_questions, part_names, task_names, locks_of}
 use Rattle.plan_file.specs.Code.Entries.{names_of, place_among, entry_if, entry_of}
@@ -33,39 +34,16 @@ use Rattle.plan_file.proofs.SeenAbove.{SeenIs, part_count}
 use Rattle.plan_file.proofs.SeenDone.{part_done, task_done, lock_done, end_done}
 use Rattle.plan_file.proofs.SeenEntries.{entered, entry_is}
 
-is_refused : Entry → Bool
-is_refused (Part name P) = false
-is_refused (Task name T C D) = false
-is_refused (Lock name j c) = false
-is_refused End = false
-is_refused (RefusedEntry r) = true
-
 -- an entry that is no refusal is one whose questions are done
-if_done : (o : Outcome) (e x : Entry) → entry_if o e ≡ x → is_refused x ≡ false → (o ≡ Done) × (e ≡ x)
-unfolding entry_if is_refused
-if_done Done e x q h = (refl, q)
-if_done (Refused r) e x q h = absurd (false≢true (sym h ∙ ap is_refused (sym q)))
+if_done : (o : Outcome) (e x : Entry) → entry_if o e ≡ Ok x → (o ≡ Done) × (e ≡ x)
+unfolding entry_if
+if_done Done e x q = (refl, cc)
+if_done (Refused r) e x q = cc
 
-if_refused : (o : Outcome) (e : Entry) (r : Refusal) → entry_if o e ≡ RefusedEntry r → is_refused e ≡ false → o ≡ Refused r
-unfolding entry_if is_refused
-if_refused Done e r q h = absurd (false≢true (sym h ∙ ap is_refused q))
-if_refused (Refused x) e r q h = let k : x ≡ r = cc in ap Refused k
-
-entered_fine : (s : List ℕ) (seen : Seen) (r : Shape) → is_refused (entered s seen r) ≡ false
-unfolding is_refused entered
-entered_fine s seen (PartShape name P) = refl
-entered_fine s seen (TaskShape name T C D) = refl
-entered_fine s seen (LockShape name c) = refl
-entered_fine s seen EndShape = refl
-entered_fine s seen Unknown = refl
-
--- entries of different kinds are different
-kind_of : Entry → ℕ
-kind_of (Part name P) = 0
-kind_of (Task name T C D) = 1
-kind_of (Lock name j c) = 2
-kind_of End = 3
-kind_of (RefusedEntry r) = 4
+if_refused : (o : Outcome) (e : Entry) (r : Refusal) → entry_if o e ≡ Err r → o ≡ Refused r
+unfolding entry_if
+if_refused Done e r q = cc
+if_refused (Refused x) e r q = let k : x ≡ r = cc in ap Refused k
 
 -- the record that was entered
 module _ (s : List ℕ) (seen : Seen) where
@@ -73,46 +51,46 @@ module _ (s : List ℕ) (seen : Seen) where
   IsPart r nm v = (P : Span) × (r ≡ PartShape nm P) × (v ≡ value_of (bytes_of s P))
 
   part_record : (r : Shape) (nm : Span) (v : ℕ) → entered s seen r ≡ Part nm v → IsPart r nm v
-  unfolding entered kind_of
+  unfolding entered
   part_record (PartShape name P) nm v e = let q : name ≡ nm = cc in (P, ap (λ (x : Span). PartShape x P) q, cc)
-  part_record (TaskShape name T C D) nm v e = absurd (omega (arith, ap kind_of e))
-  part_record (LockShape name c) nm v e = absurd (omega (arith, ap kind_of e))
-  part_record EndShape nm v e = absurd (omega (arith, ap kind_of e))
-  part_record Unknown nm v e = absurd (omega (arith, ap kind_of e))
+  part_record (TaskShape name T C D) nm v e = cc
+  part_record (LockShape name c) nm v e = cc
+  part_record EndShape nm v e = cc
+  part_record Unknown nm v e = cc
 
   abbrev IsTask : Shape → Span → ℕ → ℕ → ℕ → Type 0
   IsTask r nm u v w = (T : List ℕ) × (C : List ℕ) × (D : List ℕ) × (record_as s r ≡ task (bytes_of s nm) T C D) × (u ≡ value_of T) × (v ≡ value_of C) × (w ≡ value_of D)
 
   task_record : (r : Shape) (nm : Span) (u v w : ℕ) → entered s seen r ≡ Task nm u v w → IsTask r nm u v w
-  unfolding entered record_as kind_of
-  task_record (PartShape name P) nm u v w e = absurd (omega (arith, ap kind_of e))
+  unfolding entered record_as
+  task_record (PartShape name P) nm u v w e = cc
   task_record (TaskShape name T C D) nm u v w e =
       let q : name ≡ nm = cc in
       (bytes_of s T, bytes_of s C, bytes_of s D, ap (λ (x : Span). task (bytes_of s x) (bytes_of s T) (bytes_of s C) (bytes_of s D)) q, (cc), (cc), cc)
-  task_record (LockShape name c) nm u v w e = absurd (omega (arith, ap kind_of e))
-  task_record EndShape nm u v w e = absurd (omega (arith, ap kind_of e))
-  task_record Unknown nm u v w e = absurd (omega (arith, ap kind_of e))
+  task_record (LockShape name c) nm u v w e = cc
+  task_record EndShape nm u v w e = cc
+  task_record Unknown nm u v w e = cc
 
   abbrev IsLock : Shape → Span → ℕ → ℕ → Type 0
   IsLock r nm j v = (c : List ℕ) × (record_as s r ≡ lock (bytes_of s nm) c) × (j ≡ place_among (bytes_of s nm) (names_of s seen.locks)) × (v ≡ value_of c)
 
   lock_record : (r : Shape) (nm : Span) (j v : ℕ) → entered s seen r ≡ Lock nm j v → IsLock r nm j v
-  unfolding entered record_as kind_of
-  lock_record (PartShape name P) nm j v e = absurd (omega (arith, ap kind_of e))
-  lock_record (TaskShape name T C D) nm j v e = absurd (omega (arith, ap kind_of e))
+  unfolding entered record_as
+  lock_record (PartShape name P) nm j v e = cc
+  lock_record (TaskShape name T C D) nm j v e = cc
   lock_record (LockShape name c) nm j v e =
       let q : name ≡ nm = cc in
       (bytes_of s c, ap (λ (x : Span). lock (bytes_of s x) (bytes_of s c)) q, (cc), cc)
-  lock_record EndShape nm j v e = absurd (omega (arith, ap kind_of e))
-  lock_record Unknown nm j v e = absurd (omega (arith, ap kind_of e))
+  lock_record EndShape nm j v e = cc
+  lock_record Unknown nm j v e = cc
 
-  end_record : (n : ℕ) (r : Shape) → entry_of s n seen r ≡ End → entered s seen r ≡ End → record_as s r ≡ end
-  unfolding entry_of entered record_as kind_of
-  end_record n (PartShape name P) d e = absurd (omega (arith, ap kind_of e))
-  end_record n (TaskShape name T C D) d e = absurd (omega (arith, ap kind_of e))
-  end_record n (LockShape name c) d e = absurd (omega (arith, ap kind_of e))
+  end_record : (n : ℕ) (r : Shape) → entry_of s n seen r ≡ Ok End → entered s seen r ≡ End → record_as s r ≡ end
+  unfolding entry_of entered record_as
+  end_record n (PartShape name P) d e = cc
+  end_record n (TaskShape name T C D) d e = cc
+  end_record n (LockShape name c) d e = cc
   end_record n EndShape d e = refl
-  end_record n Unknown d e = absurd (omega (arith, ap kind_of d))
+  end_record n Unknown d e = cc
 
 -- where a task is above, a part is
 task_in_part : (ps : List FilePart) → 1 ≤ length (last_or no_part ps).tasks → 1 ≤ length ps
@@ -164,26 +142,26 @@ pub record EndEntered (s : List ℕ) (n : ℕ) (a : Above) (r : Shape) : Type 0 
   pub part_above_is : 1 ≤ length a.parts
 
 module _ (s : List ℕ) (seen : Seen) (a : Above) (seen_is : SeenIs s seen a) (n : ℕ) (r : Shape) where
-  pub refused_entered : (x : Refusal) → entry_of s n seen r ≡ RefusedEntry x → first_no (record_questions n a (record_as s r)) ≡ Refused x
-  refused_entered x e = if_refused _ (entered s seen r) x (sym (entry_is s seen a seen_is n r) ∙ e) (entered_fine s seen r)
+  pub refused_entered : (x : Refusal) → entry_of s n seen r ≡ Err x → first_no (record_questions n a (record_as s r)) ≡ Refused x
+  refused_entered x e = if_refused _ (entered s seen r) x (sym (entry_is s seen a seen_is n r) ∙ e)
 
-  done_entered : (x : Entry) → entry_of s n seen r ≡ x → is_refused x ≡ false → AllDone s n a r × (entered s seen r ≡ x)
-  done_entered x e h = if_done _ (entered s seen r) x (sym (entry_is s seen a seen_is n r) ∙ e) h
+  done_entered : (x : Entry) → entry_of s n seen r ≡ Ok x → AllDone s n a r × (entered s seen r ≡ x)
+  done_entered x e = if_done _ (entered s seen r) x (sym (entry_is s seen a seen_is n r) ∙ e)
 
-  pub part_entered : (nm : Span) (v : ℕ) → entry_of s n seen r ≡ Part nm v → PartEntered s seen n a r nm v
-  unfolding is_refused record_questions record_as
+  pub part_entered : (nm : Span) (v : ℕ) → entry_of s n seen r ≡ Ok (Part nm v) → PartEntered s seen n a r nm v
+  unfolding record_questions record_as
   part_entered nm v e =
-      let d = done_entered (Part nm v) e refl in
+      let d = done_entered (Part nm v) e in
       let k = part_record s seen r nm v d.1 in
       let is : record_as s r ≡ part (bytes_of s nm) (bytes_of s k.0) = ap (record_as s) k.1 in
       let f : first_no (record_questions n a (part (bytes_of s nm) (bytes_of s k.0))) ≡ Done = subst (λ (x : Record). first_no (record_questions n a x) ≡ Done) is d.0 in
       let g = part_done n _ (part_names a.parts) (bytes_of s nm) (bytes_of s k.0) f in
       record { period = k.0; shape = k.1; is = is; value = k.2; done = d.0; room = omega (arith, g.1, length-map a.parts (λ p. p.name), part_count s seen a seen_is) }
 
-  pub task_entered : (nm : Span) (u v w : ℕ) → entry_of s n seen r ≡ Task nm u v w → TaskEntered s seen n a r nm u v w
-  unfolding is_refused record_questions allowed_here
+  pub task_entered : (nm : Span) (u v w : ℕ) → entry_of s n seen r ≡ Ok (Task nm u v w) → TaskEntered s seen n a r nm u v w
+  unfolding record_questions allowed_here
   task_entered nm u v w e =
-      let d = done_entered (Task nm u v w) e refl in
+      let d = done_entered (Task nm u v w) e in
       let k = task_record s seen r nm u v w d.1 in
       let f : first_no (record_questions n a (task (bytes_of s nm) k.0 k.1 k.2)) ≡ Done = subst (λ (x : Record). first_no (record_questions n a x) ≡ Done) k.3 d.0 in
       let g = task_done n (not_behind_end a && part_above a) (task_names (this_part a)) (bytes_of s nm) k.0 k.1 k.2 f in
@@ -202,10 +180,10 @@ module _ (s : List ℕ) (seen : Seen) (a : Above) (seen_is : SeenIs s seen a) (n
         named = g.6;
       }
 
-  pub lock_entered : (nm : Span) (j v : ℕ) → entry_of s n seen r ≡ Lock nm j v → LockEntered s seen n a r nm j v
-  unfolding is_refused record_questions allowed_here
+  pub lock_entered : (nm : Span) (j v : ℕ) → entry_of s n seen r ≡ Ok (Lock nm j v) → LockEntered s seen n a r nm j v
+  unfolding record_questions allowed_here
   lock_entered nm j v e =
-      let d = done_entered (Lock nm j v) e refl in
+      let d = done_entered (Lock nm j v) e in
       let k = lock_record s seen r nm j v d.1 in
       let f : first_no (record_questions n a (lock (bytes_of s nm) k.0)) ≡ Done = subst (λ (x : Record). first_no (record_questions n a x) ≡ Done) k.1 d.0 in
       let g = lock_done n (not_behind_end a && task_above a) (among (bytes_of s nm) (locks_of (this_task a))) (lock_names (this_part a)) (this_task a).cost (bytes_of s nm) k.0 f in
@@ -224,10 +202,10 @@ module _ (s : List ℕ) (seen : Seen) (a : Above) (seen_is : SeenIs s seen a) (n
         named = g.5;
       }
 
-  pub end_entered : entry_of s n seen r ≡ End → EndEntered s n a r
-  unfolding is_refused record_questions allowed_here
+  pub end_entered : entry_of s n seen r ≡ Ok End → EndEntered s n a r
+  unfolding record_questions allowed_here
   end_entered e =
-      let d = done_entered End e refl in
+      let d = done_entered End e in
       let k = end_record s seen n r e d.1 in
       let f : first_no (record_questions n a end) ≡ Done = subst (λ (x : Record). first_no (record_questions n a x) ≡ Done) k d.0 in
       let g = end_done n (not_behind_end a && (not_behind_part a && part_above a)) f in

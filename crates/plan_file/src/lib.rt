@@ -3,13 +3,13 @@
 
 ghost use Rattle.std.specs.Prelude.{◌≡◌};
 ghost use Rattle.stretch.specs.Stretch.{bytes_of};
-ghost use Rattle.plan_file.specs.Code.Entries.{FineNames, no_names, no_task_read, place_among, names_of};
+ghost use Rattle.plan_file.specs.Code.Entries.{FineNames, place_in, names_of};
 
-use refusal::Refusal;
 use stretch::Span;
 use task_set::Task;
 
 // Names in the order of their lines, as stretches of the file.
+// Kept: memory is fixed (a rule of the project: no heap), so an array and how many of its places are in use.
 #[derive(Clone, Copy)]
 pub struct Names {
     pub count: usize,
@@ -18,6 +18,7 @@ pub struct Names {
 
 // What the questions look at of the lines above: whether the line directly above is a `part` or the `end`; the names of the parts so far; and of the last
 // part the names of its tasks and of its different locks, and its last task.
+// Kept: question 4 asks for `ended` and `fresh` apart; one enum of three cases would need a test for each beside it.
 #[derive(Clone, Copy)]
 pub struct Seen {
     pub fresh: bool,
@@ -35,51 +36,31 @@ pub enum Entry {
     Task(Span, u64, u64, u64),
     Lock(Span, usize, u64),
     End,
-    Refused(Refusal),
 }
 
-pub fn no_names() -> Names
-    ensures { result ≡ no_names }
-{
-    Names {
-        count: 0,
-        span: [Span { start: 0, len: 0 }; 16],
+pub const NO_NAMES: Names = Names {
+    count: 0,
+    span: [Span { start: 0, len: 0 }; 16],
+};
+
+impl Names {
+    // The place of a name among these, from 0.
+    pub fn place_in(&self, s: &[u8], p: Span) -> Option<usize>
+        requires { FineNames self.now }
+        ensures { result ≡ place_in (bytes_of s.now p) (names_of s.now self.now) }
+    {
+        let name = stretch::bytes(s, p);
+        let known = &self.span[..self.count];
+        known
+            .iter()
+            .position(|q| fields::same_bytes(name, stretch::bytes(s, *q)))
     }
 }
 
-// The place of a name among names, from 0; their count where it is not among them.
-pub fn place_in(s: &[u8], names: Names, p: Span) -> usize
-    requires { FineNames names }
-    ensures { result ≡ place_among (bytes_of s.now p) (names_of s.now names) }
-{
-    let n = names.count;
-    let span = names.span;
-    let name = stretch::bytes(s, p);
-    let mut i = 0;
-    while i < n {
-        let q = span[i];
-        if fields::same_bytes(name, stretch::bytes(s, q)) {
-            return i;
-        }
-        i += 1;
-    }
-    i
-}
-
-// A task's three numbers, or that one of them is malformed.
-#[derive(Clone, Copy)]
-pub enum Times {
-    Are(u64, u64, u64),
-    Malformed,
-}
-
-pub fn no_task() -> Task
-    ensures { result ≡ no_task_read }
-{
-    Task {
-        separation: 0,
-        cost: 0,
-        deadline: 0,
-        uses: [0; 8],
-    }
-}
+// A task that was not read.
+pub const NO_TASK: Task = Task {
+    separation: 0,
+    cost: 0,
+    deadline: 0,
+    uses: [0; 8],
+};

@@ -1,12 +1,12 @@
 -- The local test is what the paper says, and only one number is such.
 -- Assumes nothing.
+use Rattle.std.specs.Prelude.{Some}
 use Prim.Native.Nat.{ℕ, ◌≤◌}
 use native.Mathlib.Omega.{arith}
 use mathlib.Core.Path.{◌≡◌, refl, sym, ap, ◌∙◌}
 use mathlib.Core.Bool.{Bool, true, false}
 use mathlib.Core.Logic.{◌⊎◌, inl, inr, ⊎_elim, ◌↔◌}
 use mathlib.Core.List.{List, ◌∷◌, ◌++◌, reverse, reverse-reverse}
-use Rattle.least.specs.declared.Least.TheVariants.{At}
 use Rattle.least.specs.Code.Search.{IsLeast}
 use Rattle.task_set.specs.declared.Task.{Task}
 use Rattle.task_set.specs.Tasks.{lowest_ceiling}
@@ -75,7 +75,7 @@ module _ (v : Partition) (σ : Setting) (p : Permitted v σ) where
   holding_one : NoneOrOne
   holding_one = ⊎_elim none_shared (λ k. at k.0 k.1 k.2 k.3 (is_shared v k.0) refl) (holding_time_paper v σ p.held).one
     where
-      at : (l : ℕ) → 1 ≤ l → l ≤ v.locks → counted_time v l (σ l) ≡ At (holding_time_of v σ) → (b : Bool) → is_shared v l ≡ b → NoneOrOne
+      at : (l : ℕ) → 1 ≤ l → l ≤ v.locks → counted_time v l (σ l) ≡ Some (holding_time_of v σ) → (b : Bool) → is_shared v l ≡ b → NoneOrOne
       at l a b e true s = inr (l, record { from = a; to = b; shared = s }, (lock_holding_iff v.tasks l (σ l) (holding_time_of v σ)).0 ((holding_paper v.tasks l (σ l) (holding_time_of v σ)).0 (sym (counted_shared v l (σ l) s) ∙ e)).0)
       at l a b e false s = none_shared (cc (e, counted_private v l (σ l) s))
 

@@ -23,10 +23,9 @@ pub struct PlanAnswer {
 fn plan_answer(a: Planned) -> PlanAnswer
     ensures { result ≡ plan_exported a }
 {
-    let o = a.outcome;
     PlanAnswer {
-        number: refusal::number(o),
-        place: refusal::place(o),
+        number: refusal::number(a.outcome),
+        place: refusal::place(a.outcome),
         written: a.written,
     }
 }
@@ -58,12 +57,10 @@ pub extern "C" fn planner_candidates(file: &[u8], part: usize) -> CandidatesAnsw
     ensures { result ≡ candidates_exported (candidate_list (candidates_of file.now part)) }
 {
     let a = planner::candidates(file, part);
-    let o = a.outcome;
-    let kept = a.kept;
     CandidatesAnswer {
-        number: refusal::number(o),
-        place: refusal::place(o),
-        kept,
+        number: refusal::number(a.outcome),
+        place: refusal::place(a.outcome),
+        kept: a.kept,
     }
 }
 
@@ -81,13 +78,11 @@ pub extern "C" fn planner_name(file: &[u8], part: usize) -> NameAnswer
     ensures { NameExported file.now part result }
 {
     let a = planner::name_stretch(file, part);
-    let o = a.outcome;
-    let span = a.span;
     NameAnswer {
-        number: refusal::number(o),
-        place: refusal::place(o),
-        start: span.start,
-        length: span.len,
+        number: refusal::number(a.outcome),
+        place: refusal::place(a.outcome),
+        start: a.span.start,
+        length: a.span.len,
     }
 }
 
@@ -105,14 +100,13 @@ pub struct WeighAnswer {
 fn weigh_answer(a: Weighed) -> WeighAnswer
     ensures { result ≡ weigh_exported a }
 {
-    let o = a.outcome;
+    // Kept: the checker takes no array straight out of a field into a struct.
     let bounds = a.bounds;
-    let load = a.load;
     WeighAnswer {
-        number: refusal::number(o),
-        place: refusal::place(o),
+        number: refusal::number(a.outcome),
+        place: refusal::place(a.outcome),
         bounds,
-        load,
+        load: a.load,
         row: a.row,
     }
 }
@@ -144,10 +138,9 @@ pub extern "C" fn planner_supply(p: u64, q: u64, t: u64) -> SupplyAnswer
     ensures { result ≡ supply_exported (supplied (supply_answer p q t)) }
 {
     let a = planner::supply(p, q, t);
-    let o = a.outcome;
     SupplyAnswer {
-        number: refusal::number(o),
-        place: refusal::place(o),
+        number: refusal::number(a.outcome),
+        place: refusal::place(a.outcome),
         ticks: a.ticks,
     }
 }

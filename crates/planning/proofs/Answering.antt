@@ -4,12 +4,13 @@
 use Prim.Native.Nat.{ℕ, suc, ◌≤◌, ◌<◌}
 use native.Mathlib.Omega.{arith}
 use mathlib.Core.Path.{◌≡◌, sym, ap, subst, ◌∙◌}
-use mathlib.Core.Bool.{Bool, true, false, cond}
+use mathlib.Core.Bool.{cond}
 use mathlib.Core.List.{List, ◌++◌, map}
 use borrow.Author.Tests.{le-leb, lt-leb}
 use lib.Dec.{leb}
 use lib.ListN.{length, take, drop}
 use lib.Seq.{get_or-take}
+use Rattle.std.specs.Prelude.{Ok, Err}
 use Rattle.least.specs.Lists.{pad}
 use Rattle.least.proofs.Fraction.{FirstGreatest, first_if_any}
 use Rattle.least.proofs.First.{first_greatest}
@@ -17,7 +18,7 @@ use Rattle.least.proofs.Pad.{length_pad, take_pad}
 use Rattle.least.proofs.Members.{get_d_member}
 use Rattle.refusal.specs.declared.Refusal.{Refusal}
 use Rattle.refusal.specs.declared.Refusal.TheVariants.{NoRoom}
-use Rattle.refusal.specs.declared.Outcome.TheVariants.{Done, Refused}
+use Rattle.refusal.specs.declared.Outcome.TheVariants.{Done}
 use Rattle.refusal.specs.Limits.{row_limit}
 use Rattle.refusal.specs.Questions.{Answer, when_answered}
 use Rattle.refusal.specs.Questions.Answer.{answered, refused}
@@ -38,23 +39,28 @@ use Rattle.reader.specs.declared.PlanFile.{PlanFile}
 use Rattle.reader.specs.Code.Reader.{parts_in}
 use Rattle.reader.proofs.Handed.{parts_count}
 use Rattle.answers.specs.Parts.{shares_of}
-use Rattle.answers.specs.Answers.{plan_of, planned, buffer_after, PlanAnswered, listed_in}
+use Rattle.answers.specs.Answers.{plan_of, chart_of, buffer_after, listed_in}
+use Rattle.answers.specs.Code.Handing.{count_of, HandedOn}
 use Rattle.answers.specs.Plan.{Plan, plan_file, plan_text}
-use Rattle.answers.proofs.Handing.{refused_over}
+use Rattle.answers.proofs.Handing.{refused_on}
 use Rattle.answers.proofs.ChartRows.{chart_unplanned}
 use Rattle.answers.proofs.PlanRows.{shares_bounds, listed_or_14}
-use Rattle.printing.specs.Code.Printing.{listing_at, shares_in, ToPrint, EachFine, AllShownAre}
+use Rattle.printing.specs.declared.Listing.{Listing}
+use Rattle.printing.specs.Code.ToPrint.{ToPrint}
+use Rattle.printing.specs.Code.Printing.{listing_at, shares_in, EachFine, AllShownAre}
 use Rattle.printing.proofs.Ceilings.{shares_shown}
-use Rattle.planning.specs.Code.Chosen.{PlanIs, answer_of}
+use Rattle.planning.specs.Code.Chosen.{PlanIs}
 use Rattle.planning.proofs.Planning.{file_fine, listing_same, buffer_same, each_fine}
 use Rattle.planning.proofs.Weighed.{rows_in_range, kept_weighed}
-use Rattle.planning.proofs.Choosing.{readable, reads, count_is, rows_room, plan_is, kept, passes, rows_length}
+use Rattle.planning.proofs.Choosing.{count_is, rows_room, plan_is, kept, passes, rows_length}
 
 -- questions 1 to 11
-pub answer_refused : (charted : Bool) (s : List ℕ) (room : ℕ) (r : Refusal) → plan_file s ≡ refused r → answer_of charted s room ≡ refused r
-unfolding answer_of plan_of when_answered
-answer_refused true s room r e = chart_unplanned room s r e
-answer_refused false s room r e = ap (λ (a : Answer Plan). when_answered a (listed_in room)) e
+pub list_refused : (s : List ℕ) (out : List ℕ) (r : Refusal) → plan_file s ≡ refused r → HandedOn (plan_of s (length out)) out (Err r) out
+unfolding plan_of when_answered
+list_refused s out r e = refused_on _ out r (ap (λ (a : Answer Plan). when_answered a (listed_in (length out))) e)
+
+pub chart_refused : (s : List ℕ) (out : List ℕ) (r : Refusal) → plan_file s ≡ refused r → HandedOn (chart_of s (length out)) out (Err r) out
+chart_refused s out r e = refused_on _ out r (chart_unplanned (length out) s r e)
 
 -- some choice passes
 module _ (s : List ℕ) (f : PlanFile) (rows : Rows) (is : PlanIs s f rows) where
@@ -65,7 +71,7 @@ module _ (s : List ℕ) (f : PlanFile) (rows : Rows) (is : PlanIs s f rows) wher
   R = rows_of rows
 
   some_part : 1 ≤ f.count
-  some_part = omega (arith, parts_some s ps (reads s f rows is), parts_count s f is.read)
+  some_part = omega (arith, parts_some s ps (is.read.value), parts_count s f is.read)
 
   R-length : length R ≡ f.count
   R-length = rows_length s f rows is
@@ -73,7 +79,7 @@ module _ (s : List ℕ) (f : PlanFile) (rows : Rows) (is : PlanIs s f rows) wher
   weighed_is : weigh_rows rows ≡ weighed Done R
   weighed_is =
       weigh_few rows (omega (arith, count_is s f rows is, is.read.few))
-      ∙ kept_weighed ps (parts_fine s ps (reads s f rows is)) (omega (arith, R-length, some_part)) (omega (arith, R-length, is.read.few)) (kept s f rows is) (passes s f rows is)
+      ∙ kept_weighed ps (parts_fine s ps (is.read.value)) (omega (arith, R-length, some_part)) (omega (arith, R-length, is.read.few)) (kept s f rows is) (passes s f rows is)
 
   -- its rows are in range
   pub rows_fine : FineRows rows
@@ -85,7 +91,7 @@ module _ (s : List ℕ) (f : PlanFile) (rows : Rows) (is : PlanIs s f rows) wher
         some = omega (arith, c, some_part);
         few = omega (arith, c, is.read.few);
         room = omega (arith, c, n);
-        each = λ k h. rw (← get_or-take rows.count rows.rows k no_row h) (rows_in_range ps (parts_fine s ps (reads s f rows is)) (kept s f rows is) _ (get_d_member R k no_row (omega (arith, R-length, c))));
+        each = λ k h. rw (← get_or-take rows.count rows.rows k no_row h) (rows_in_range ps (parts_fine s ps (is.read.value)) (kept s f rows is) _ (get_d_member R k no_row (omega (arith, R-length, c))));
       })
 
   abbrev w : Weighed
@@ -128,42 +134,57 @@ module _ (s : List ℕ) (f : PlanFile) (rows : Rows) (is : PlanIs s f rows) wher
   plan_no_room room l = answer_is room ∙ simp (lt-leb _ _ l)
 
   pub fine : EachFine f
-  fine = each_fine s f is.read (readable s f rows is)
+  fine = each_fine s f is.read
 
-  -- what was weighed is printed, if it fits
-  module _ (x : Weighed) (x-is : x ≡ weigh_rows rows) (cs : List ℕ) (shown-are : AllShownAre f rows cs) (out : List ℕ) where
-    pub to_print : ToPrint s f x.row
-    to_print = rw x-is (record {
-      fine = file_fine s f is.read;
-      short = omega (arith, ((parts_answered_iff s ps).0 (reads s f rows is)).fits);
-      row_some = omega (arith, row_first);
-      row_most = omega (arith, row_first, first.1.within, bounds_of-length R, R-length);
-    })
+  pub to_print : (x : Weighed) → x ≡ w → ToPrint s f x
+  to_print x x-is =
+      let at = ap (λ (y : Weighed). y.row) x-is in
+      record {
+        fine = file_fine s f is.read;
+        short = omega (arith, ((parts_answered_iff s ps).0 is.read.value).fits);
+        row_some = omega (arith, at, row_first);
+        row_most = omega (arith, at, row_first, first.1.within, bounds_of-length R, R-length);
+      }
 
-    abbrev pub shown : List ℕ
-    shown = listing_at x.row (shares_in s f rows x.bounds cs)
+-- what was weighed is printed, if it fits
+module _ (l : Listing) (is : PlanIs l.file.now l.plan.now l.rows.now) (x-is : l.weighed.now ≡ weigh_rows l.rows.now) (shown-are : AllShownAre l) where
+  abbrev s : List ℕ
+  s = l.file.now
 
-    shares_are : shares_in s f rows x.bounds cs ≡ shares_of ps R (bounds_of R)
-    shares_are =
-        shares_shown s f rows x.bounds cs (file_fine s f is.read) (count_is s f rows is) (rows_room s f rows is) (subst (λ (y : Weighed). f.count ≤ length y.bounds) (sym x-is) bounds_room) shown-are
-        ∙ ap (shares_of ps R) (ap (λ (y : Weighed). take f.count y.bounds) x-is ∙ bounds_taken)
+  abbrev f : PlanFile
+  f = l.plan.now
 
-    shown_is : shown ≡ text
-    unfolding plan_text load_row load_of
-    shown_is =
-        let bounds : map (λ y. y.bound) (shares_of ps R (bounds_of R)) ≡ bounds_of R = shares_bounds ps (bounds_of R) (kept s f rows is) (bounds_of-length R) in
-        let at : x.row ≡ w.row = ap (λ (y : Weighed). y.row) x-is in
-        ap (listing_at x.row) shares_are ∙ listing_same (shares_of ps R (bounds_of R)) x.row (omega (arith, row_first, at)) (rw bounds (sym row_is ∙ sym at))
+  abbrev rows : Rows
+  rows = l.rows.now
 
-    pub no_room : length out < length shown → PlanAnswered s out (record { outcome = Refused NoRoom; written = 0 }) out
-    no_room l = refused_over (plan_of s (length out)) out NoRoom (plan_no_room (length out) (rw shown_is at l))
+  at : l.weighed.now.row ≡ (weigh_rows rows).row
+  at = ap (λ (y : Weighed). y.row) x-is
 
-    pub printed_is : (after : List ℕ) (n : ℕ) → length shown ≤ length out → Written 0 shown out after n → PlanAnswered s out (record { outcome = Done; written = n }) after
-    unfolding planned buffer_after
-    printed_is after n l written =
-        let e = plan_fits (length out) (rw shown_is at l) in
-        let count : n ≡ length (text) = omega (arith, written.place, ap length shown_is) in
-        record {
-          result = ap (λ (k : ℕ). record { outcome = Done; written = k }) count ∙ sym (ap planned e);
-          bytes = buffer_same shown out after n written ∙ ap (λ (bytes : List ℕ). bytes ++ drop (length bytes) out) shown_is ∙ sym (ap (λ (a : Answer (List ℕ)). buffer_after a out) e);
-        }
+  abbrev pub shown : List ℕ
+  shown = listing_at l.weighed.now.row (shares_in l)
+
+  shares_are : shares_in l ≡ shares_of (parts_in s f) (rows_of rows) (bounds_of (rows_of rows))
+  shares_are =
+      shares_shown l (file_fine s f is.read) (count_is s f rows is) (rows_room s f rows is) (subst (λ (y : Weighed). f.count ≤ length y.bounds) (sym x-is) (bounds_room s f rows is)) shown-are
+      ∙ ap (shares_of (parts_in s f) (rows_of rows)) (ap (λ (y : Weighed). take f.count y.bounds) x-is ∙ bounds_taken s f rows is)
+
+  shown_is : shown ≡ text s f rows is
+  unfolding plan_text load_row load_of
+  shown_is =
+      let B = bounds_of (rows_of rows) in
+      let bounds : map (λ y. y.bound) (shares_of (parts_in s f) (rows_of rows) B) ≡ B = shares_bounds (parts_in s f) B (kept s f rows is) (bounds_of-length (rows_of rows)) in
+      ap (listing_at l.weighed.now.row) shares_are
+      ∙ listing_same (shares_of (parts_in s f) (rows_of rows) B) l.weighed.now.row (omega (arith, row_first s f rows is, at)) (rw bounds (sym (row_is s f rows is) ∙ sym at))
+
+  pub no_room : (out : List ℕ) (n : ℕ) → n ≡ length shown → length out < n → HandedOn (plan_of s (length out)) out (Err NoRoom) out
+  no_room out n e h = refused_on (plan_of s (length out)) out NoRoom (plan_no_room s f rows is (length out) (omega (arith, e, h, ap length shown_is)))
+
+  pub printed_is : (out after : List ℕ) (k n : ℕ) → k ≡ length shown → k ≤ length out → Written 0 shown out after n → HandedOn (plan_of s (length out)) out (Ok n) after
+  unfolding count_of buffer_after
+  printed_is out after k n e h written =
+      let fits = plan_fits s f rows is (length out) (omega (arith, e, h, ap length shown_is)) in
+      let count : n ≡ length (text s f rows is) = omega (arith, written.place, ap length shown_is) in
+      record {
+        result = ap Ok count ∙ sym (ap count_of fits);
+        bytes = buffer_same shown out after n written ∙ ap (λ (bytes : List ℕ). bytes ++ drop (length bytes) out) shown_is ∙ sym (ap (λ (a : Answer (List ℕ)). buffer_after a out) fits);
+      }

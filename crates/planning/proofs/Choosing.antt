@@ -6,15 +6,13 @@ use mathlib.Core.Path.{◌≡◌, refl, sym, ap, ◌∙◌}
 use mathlib.Core.Bool.{true}
 use mathlib.Core.List.{List}
 use lib.ListN.{length, length-map}
+use Rattle.std.specs.Prelude.{Result, Ok, Err, MatchResult}
 use Rattle.least.proofs.Each.{length_equal}
 use Rattle.least.proofs.Pad.{length_pad, take_pad}
 use Rattle.refusal.specs.declared.Refusal.{Refusal}
-use Rattle.refusal.specs.declared.Outcome.{Outcome}
-use Rattle.refusal.specs.declared.Outcome.TheVariants.{Done, Refused}
 use Rattle.refusal.specs.Limits.{row_limit}
-use Rattle.refusal.specs.Questions.{Answer, when_answered, when_done}
+use Rattle.refusal.specs.Questions.{Answer, when_answered}
 use Rattle.refusal.specs.Questions.Answer.{answered, refused}
-use Rattle.refusal.proofs.Answers.{answered_not_refused, done_not_refused, outcome_same_refusal}
 use Rattle.task_set.specs.Partition.{Partition}
 use Rattle.load.specs.declared.Row.{Row}
 use Rattle.load.specs.declared.Rows.{Rows}
@@ -23,34 +21,45 @@ use Rattle.load.specs.Weigh.{rows_of}
 use Rattle.load.specs.Code.Weigh.{rows_from}
 use Rattle.plan_file.specs.Numbers.{PlanPart, parts_of}
 use Rattle.reader.specs.declared.PlanFile.{PlanFile}
-use Rattle.reader.specs.Code.Reader.{parts_in, file_of, ReadIs}
-use Rattle.reader.proofs.Handed.{handed_done, parts_count}
+use Rattle.reader.specs.Code.Reader.{parts_in, ReadIs}
+use Rattle.reader.proofs.Handed.{parts_count}
 use Rattle.answers.specs.Plan.{partitions, chosen_rows, plan_with, chosen_plan, plan_file}
 use Rattle.answers.specs.Choice.{BuiltFromKept}
 use Rattle.answers.proofs.PlanRows.{RowsChosen, rows_answered, least_rows_kept, least_rows_passes}
-use Rattle.offers.specs.declared.PlanRows.{PlanRows}
 use Rattle.offers.specs.Code.Least.{partitions_in, plan_rows_from}
-use Rattle.planning.specs.Code.Chosen.{rows_read, PlanIs}
+use Rattle.planning.specs.Code.Chosen.{PlanIs}
 use Rattle.planning.proofs.Planning.{partitions_same}
 
-pub plan_read : (s : List ℕ) (f : PlanFile) → ReadIs s f → plan_file s ≡ plan_with (parts_in s f) (rows_read f)
-unfolding plan_file file_of when_answered when_done chosen_plan
-plan_read s f is = ap (λ (a : Answer (List PlanPart)). when_answered a chosen_plan) (sym is.value) ∙ go f.outcome
-  where
-    go : (o : Outcome) → when_answered (when_done o (answered (parts_in s f))) chosen_plan ≡ plan_with (parts_in s f) (when_done o (chosen_rows (partitions_in f)))
-    go Done = ap (λ (vs : List Partition). plan_with (parts_in s f) (chosen_rows vs)) (partitions_same s f is)
-    go (Refused r) = refl
+-- questions 1 to 9
+pub unread_refused : (s : List ℕ) (r : Refusal) → parts_of s ≡ refused r → plan_file s ≡ refused r
+unfolding plan_file when_answered
+unread_refused s r e = ap (λ (a : Answer (List PlanPart)). when_answered a chosen_plan) e
 
--- questions 1 to 11
-pub plan_refused : (s : List ℕ) (f : PlanFile) → ReadIs s f → (r : Refusal) → (plan_rows_from (rows_read f)).outcome ≡ Refused r → plan_file s ≡ refused r
-unfolding plan_rows_from when_answered
-plan_refused s f is r h = go (rows_read f) refl
-  where
-    go : (a : Answer (List Row)) → rows_read f ≡ a → plan_file s ≡ refused r
-    go (answered rows) e = absurd (done_not_refused (sym (ap (λ (b : Answer (List Row)). (plan_rows_from b).outcome) e) ∙ h))
-    go (refused q) e =
-        let same : q ≡ r = outcome_same_refusal (sym (ap (λ (b : Answer (List Row)). (plan_rows_from b).outcome) e) ∙ h) in
-        plan_read s f is ∙ ap (plan_with (parts_in s f)) (e ∙ ap refused same)
+plan_read : (s : List ℕ) (f : PlanFile) → ReadIs s f → plan_file s ≡ plan_with (parts_in s f) (chosen_rows (partitions_in f))
+unfolding plan_file when_answered chosen_plan
+plan_read s f is =
+    ap (λ (a : Answer (List PlanPart)). when_answered a chosen_plan) is.value
+    ∙ ap (λ (vs : List Partition). plan_with (parts_in s f) (chosen_rows vs)) (partitions_same s f is)
+
+-- a refusal or rows, back from the code's result
+refused_back : (a : Answer (List Row)) (r : Refusal) → plan_rows_from a ≡ Err r → a ≡ refused r
+unfolding plan_rows_from
+refused_back (answered rows) r e = absurd (cc)
+refused_back (refused q) r e = let same : q ≡ r = cc in ap refused same
+
+answered_back : (a : Answer (List Row)) (rows : Rows) → plan_rows_from a ≡ Ok rows → (rs : List Row) × (a ≡ answered rs) × (rows ≡ rows_from rs (length rs))
+unfolding plan_rows_from
+answered_back (answered rs) rows e = (rs, refl, cc)
+answered_back (refused q) rows e = absurd (cc)
+
+-- questions 10 and 11
+plan_refused : (s : List ℕ) (f : PlanFile) → ReadIs s f → (r : Refusal) → plan_rows_from (chosen_rows (partitions_in f)) ≡ Err r → plan_file s ≡ refused r
+unfolding when_answered
+plan_refused s f is r e = plan_read s f is ∙ ap (plan_with (parts_in s f)) (refused_back (chosen_rows (partitions_in f)) r e)
+
+pub rows_chosen : (s : List ℕ) (f : PlanFile) → ReadIs s f → (r : Result Rows Refusal) → r ≡ plan_rows_from (chosen_rows (partitions_in f)) → MatchResult r (PlanIs s f) (λ q. plan_file s ≡ refused q)
+rows_chosen s f is (Ok rows) e = record { read = is; chosen = sym e }
+rows_chosen s f is (Err q) e = plan_refused s f is q (sym e)
 
 module _ (s : List ℕ) (f : PlanFile) (rows : Rows) (is : PlanIs s f rows) where
   abbrev ps : List PlanPart
@@ -59,33 +68,14 @@ module _ (s : List ℕ) (f : PlanFile) (rows : Rows) (is : PlanIs s f rows) wher
   abbrev vs : List Partition
   vs = partitions ps
 
-  rows_there : (rs : List Row) × (rows_read f ≡ answered rs) × (rows ≡ rows_from rs (length rs))
-  unfolding plan_rows_from
-  rows_there = go (rows_read f) refl
-    where
-      go : (a : Answer (List Row)) → rows_read f ≡ a → (rs : List Row) × (rows_read f ≡ answered rs) × (rows ≡ rows_from rs (length rs))
-      go (answered rs) e = (rs, e, ap (λ (p : PlanRows). p.rows) (sym is.chosen ∙ ap plan_rows_from e))
-      go (refused r) e = absurd (done_not_refused (ap (λ (p : PlanRows). p.outcome) (sym is.chosen ∙ ap plan_rows_from e)))
+  rows_there : (rs : List Row) × (chosen_rows (partitions_in f) ≡ answered rs) × (rows ≡ rows_from rs (length rs))
+  rows_there = answered_back (chosen_rows (partitions_in f)) rows is.chosen
 
   abbrev R : List Row
   R = rows_there.0
 
-  pub readable : f.outcome ≡ Done
-  unfolding when_done
-  readable = go f.outcome refl
-    where
-      go : (o : Outcome) → f.outcome ≡ o → f.outcome ≡ Done
-      go Done e = e
-      go (Refused r) e = absurd (answered_not_refused (sym rows_there.1 ∙ ap (λ (o : Outcome). when_done o (chosen_rows (partitions_in f))) e))
-
-  pub reads : parts_of s ≡ answered ps
-  reads = handed_done s f is.read readable
-
   chosen : RowsChosen vs R
-  unfolding when_done
-  chosen =
-      rows_answered vs R
-      (ap chosen_rows (partitions_same s f is.read) ∙ sym (ap (λ (o : Outcome). when_done o (chosen_rows (partitions_in f))) readable) ∙ rows_there.1)
+  chosen = rows_answered vs R (ap chosen_rows (partitions_same s f is.read) ∙ rows_there.1)
 
   kept_there : BuiltFromKept ps R
   kept_there = rw chosen.are (least_rows_kept vs chosen.passing)

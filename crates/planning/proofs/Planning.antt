@@ -8,7 +8,6 @@ use lib.ListN.{length, take, drop}
 use Rattle.least.specs.Lists.{first_of, joined}
 use Rattle.least.specs.Fraction.{at_most, greatest_of}
 use Rattle.least.proofs.Lists.{nth_get}
-use Rattle.refusal.specs.declared.Outcome.TheVariants.{Done}
 use Rattle.writer.specs.Code.Written.{written, Written}
 use Rattle.plan_file.specs.Numbers.{PlanPart}
 use Rattle.plan_file.proofs.PlanParts.{parts_some}
@@ -17,11 +16,12 @@ use Rattle.listing.proofs.Shares.{load_share_lem}
 use Rattle.reader.specs.declared.PlanFile.{PlanFile}
 use Rattle.reader.specs.Code.Reader.{blank_part, part_of, parts_in, ReadIs}
 use Rattle.reader.proofs.Fine.{counts_at, handed_fine}
-use Rattle.reader.proofs.Handed.{handed_done, parts_count}
+use Rattle.reader.proofs.Handed.{parts_count}
 use Rattle.answers.specs.Plan.{partitions}
 use Rattle.offers.specs.Code.Gathered.{FineParts}
 use Rattle.offers.specs.Code.Least.{partitions_in}
-use Rattle.printing.specs.Code.Printing.{no_share, listing_at, FineFile, EachFine}
+use Rattle.printing.specs.Code.ToPrint.{FineFile}
+use Rattle.printing.specs.Code.Printing.{no_share, listing_at, EachFine}
 
 module _ (s : List ℕ) (f : PlanFile) (is : ReadIs s f) where
   -- the numbers of the parts are the same, by whatever names they go
@@ -32,22 +32,21 @@ module _ (s : List ℕ) (f : PlanFile) (is : ReadIs s f) where
   pub file_fine : FineFile f
   file_fine = record { few = is.few; room = is.room; counts = λ k l. counts_at s f is k blank_part l }
 
-  module _ (done : f.outcome ≡ Done) where
-    pub each_fine : EachFine f
-    each_fine k l = (handed_fine s f is done k blank_part l).fine
+  pub each_fine : EachFine f
+  each_fine k l = (handed_fine s f is k blank_part l).fine
 
-    parts_fine : FineParts f
-    parts_fine = record {
+  -- what the choice of its rows asks for
+  pub to_choose : FineParts f × (1 ≤ f.count)
+  to_choose = (
+    record {
       few = is.few;
       room = is.room;
       fine = each_fine;
-      period_some = λ k l. (handed_fine s f is done k blank_part l).period_some;
-      period_most = λ k l. (handed_fine s f is done k blank_part l).period_most;
-    }
-
-    -- what `choose` asks for
-    pub to_choose : FineParts f × (1 ≤ f.count)
-    to_choose = (parts_fine, omega (arith, parts_count s f is, parts_some s (parts_in s f) (handed_done s f is done)))
+      period_some = λ k l. (handed_fine s f is k blank_part l).period_some;
+      period_most = λ k l. (handed_fine s f is k blank_part l).period_most;
+    },
+    omega (arith, parts_count s f is, parts_some s (parts_in s f) is.value),
+  )
 
 -- the load line is that of the first share that reaches the load
 pub listing_same : (shares : List Share) (k : ℕ) → 1 ≤ k → first_of (at_most (greatest_of (map (λ x. x.bound) shares))) (map (λ x. x.bound) shares) ≡ k → listing_at k shares ≡ listing_of shares

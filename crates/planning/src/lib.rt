@@ -1,96 +1,78 @@
 // The plan of a file, and its listing or its chart in the lent bytes.
 #![tactic(auto)]
 
-ghost use Rattle.std.specs.Prelude.{◌≡◌, ◌≤◌, length};
-ghost use Rattle.refusal.specs.declared.Outcome.TheVariants.{Done};
-ghost use Rattle.answers.specs.Answers.{HandedOver, PlanAnswered, ChartAnswered};
-ghost use Rattle.offers.specs.Code.Gathered.{FineParts};
-ghost use Rattle.offers.specs.Code.Least.{plan_rows_from};
-ghost use Rattle.planning.specs.Code.Chosen.{rows_read, PlanIs, answer_of};
+ghost use Rattle.std.specs.Prelude.{◌≡◌, length, MatchResult};
+ghost use Rattle.refusal.specs.Questions.Answer.{refused};
+ghost use Rattle.answers.specs.Plan.{plan_file};
+ghost use Rattle.answers.specs.Answers.{plan_of, chart_of, PlanAnswered, ChartAnswered};
+ghost use Rattle.answers.specs.Code.Handing.{HandedOn};
+ghost use Rattle.planning.specs.Code.Chosen.{PlanIs};
 
 use answers::Planned;
 use load::Rows;
-use offers::PlanRows;
+use printing::Listing;
 use reader::PlanFile;
-use refusal::{CEILING_PLACES, Outcome, Refusal};
+use refusal::{CEILING_PLACES, Refusal};
 
-// The rows of the plan of a file that was read, or its refusal: 1 to 9 are the reader's, 10 and 11 are asked here. What was read and these rows are the plan.
-pub fn choose(f: PlanFile) -> PlanRows
-    requires { f.outcome ≡ Done → FineParts f × (1 ≤ f.count) }
-    ensures { result ≡ plan_rows_from (rows_read f) }
+// Reads a file and chooses the rows of its plan: questions 1 to 11. What was read and these rows are the plan.
+fn choose(file: &[u8], f: &mut PlanFile) -> Result<Rows, Refusal>
+    ensures { MatchResult result (PlanIs file.now f.new) (λ r. plan_file file.now ≡ refused r) }
 {
-    let o = f.outcome;
-    match o {
-        Outcome::Refused(r) => offers::no_rows(r),
-        Outcome::Done => offers::plan_rows(f),
-    }
+    reader::read_file(file, 1, f)?;
+    offers::plan_rows(f)
 }
 
-// The listing of a plan, if it fits: question 14. The ceilings shown are worked out once, those of the part at the place k from the place LOCK_LIMIT × k on; they stand here
-// and not in a function of their own, which would copy the file.
-fn print_plan(file: &[u8], f: PlanFile, rows: Rows, out: &mut [u8]) -> Planned
-    requires { PlanIs file.now f rows }
-    ensures { PlanAnswered file.now out.old result out.new }
+// The listing of a plan, if it fits: question 14. The ceilings shown are worked out once, those of the part at the place k from the place LOCK_LIMIT × k on.
+fn print_plan(file: &[u8], f: &PlanFile, rows: &Rows, out: &mut [u8]) -> Result<usize, Refusal>
+    requires { PlanIs file.now f.now rows.now }
+    ensures { HandedOn (plan_of file.now (length out.old)) out.old result out.new }
 {
-    let n = f.count;
-    let mut ceilings = [0u64; CEILING_PLACES];
-    let mut k = 0;
-    while k < n {
-        let p = f.parts[k];
-        let r = rows.rows[k];
-        shown::show_ceilings(p.part, r.holding, k, &mut ceilings);
-        k += 1;
+    let mut ceilings = [0; CEILING_PLACES];
+    for k in 0..f.count {
+        shown::show_ceilings(&f.parts[k].part, rows.rows[k].holding, k, &mut ceilings);
     }
-    let w = load::weigh(rows);
-    let bounds = w.bounds;
-    let row = w.row as usize;
-    let length = printing::listing_length(file, f, rows, bounds, row, &ceilings);
-    if out.len() < length {
-        return Planned {
-            outcome: Outcome::Refused(Refusal::NoRoom),
-            written: 0,
-        };
+    let weighed = rows.weigh();
+    let listing = Listing {
+        file,
+        plan: f,
+        rows,
+        weighed: &weighed,
+        ceilings: &ceilings,
+    };
+    if out.len() < listing.length() {
+        return Err(Refusal::NoRoom);
     }
-    let written = printing::write_listing(file, f, rows, bounds, row, &ceilings, out);
-    Planned {
-        outcome: Outcome::Done,
-        written,
-    }
+    Ok(listing.write(out))
 }
 
-// The listing of a file's plan or, if `charted`, its chart: questions 1 to 11, then 14 of the listing, or 19 and 14 of the chart. It is one function for both, so
-// that the struct of the file is not copied for the search.
-fn answer(file: &[u8], out: &mut [u8], charted: bool) -> Planned
-    ensures { HandedOver (answer_of charted file.now (length out.old)) out.old result out.new }
+// Questions 1 to 11, then 14 of the listing.
+fn listed(file: &[u8], out: &mut [u8]) -> Result<usize, Refusal>
+    ensures { HandedOn (plan_of file.now (length out.old)) out.old result out.new }
 {
-    let f = reader::read_file(file, 1);
-    let p = choose(f);
-    let o = p.outcome;
-    match o {
-        Outcome::Refused(r) => Planned {
-            outcome: Outcome::Refused(r),
-            written: 0,
-        },
-        Outcome::Done => {
-            if charted {
-                charting::chart_rows(p.rows, out)
-            } else {
-                print_plan(file, f, p.rows, out)
-            }
-        }
-    }
+    let mut f = PlanFile::new();
+    let rows = choose(file, &mut f)?;
+    print_plan(file, &f, &rows, out)
+}
+
+// Questions 1 to 11, then 19 and 14 of the chart.
+fn charted(file: &[u8], out: &mut [u8]) -> Result<usize, Refusal>
+    ensures { HandedOn (chart_of file.now (length out.old)) out.old result out.new }
+{
+    let mut f = PlanFile::new();
+    let rows = choose(file, &mut f)?;
+    charting::chart_rows(&rows, out)
 }
 
 // The plan of a file: questions 1 to 11, then 14. Its listing is in the first bytes lent, the others stay as they were; on refusal all do.
 pub fn plan(file: &[u8], out: &mut [u8]) -> Planned
     ensures { PlanAnswered file.now out.old result out.new }
 {
-    answer(file, out, false)
+    Planned::from(listed(file, out))
 }
 
 // The chart of one cycle of a file's plan: questions 1 to 11, then 19, then 14. Its 720 bytes are the first ones lent, the others stay as they were; on refusal all do.
 pub fn chart(file: &[u8], out: &mut [u8]) -> Planned
     ensures { ChartAnswered file.now out.old result out.new }
 {
-    answer(file, out, true)
+    Planned::from(charted(file, out))
 }

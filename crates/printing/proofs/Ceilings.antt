@@ -35,7 +35,9 @@ use Rattle.listing.specs.Listing.{Ceiling, share_under}
 use Rattle.listing.proofs.Ceilings.{ceilings_agree}
 use Rattle.reader.proofs.Handed.{part_at_lem}
 use Rattle.answers.specs.Parts.{share_of, shares_of}
-use Rattle.printing.specs.Code.Printing.{no_share, shares_in, FineFile, EachFine, AllShownAre}
+use Rattle.printing.specs.declared.Listing.{Listing}
+use Rattle.printing.specs.Code.ToPrint.{FineFile}
+use Rattle.printing.specs.Code.Printing.{no_share, shares_in, EachFine, AllShownAre}
 use Rattle.printing.proofs.Shares.{shares_count, share_at}
 
 abbrev read_at : PlanFile → ℕ → PartRead
@@ -83,29 +85,35 @@ zip3_length f n (x ∷ xs) [] zs h i j = i
 zip3_length f n (x ∷ xs) (y ∷ ys) [] h i j = j
 zip3_length f n (x ∷ xs) (y ∷ ys) (z ∷ zs) h i j = let e = zip3_length f (length xs) xs ys zs (omega arith) (omega arith) (omega arith) in omega arith
 
-module _ (s : List ℕ) (f : PlanFile) (rows : Rows) (bounds : List Frac) (cs : List ℕ) where
+module _ (l : Listing) where
+  abbrev f : PlanFile
+  f = l.plan.now
+
+  abbrev bounds : List Frac
+  bounds = l.weighed.now.bounds
+
   -- with the ceilings shown, the shares are those of the parts
-  pub shares_shown : FineFile f → rows.count ≡ f.count → f.count ≤ length rows.rows → f.count ≤ length bounds → AllShownAre f rows cs
-      → shares_in s f rows bounds cs ≡ shares_of (parts_in s f) (rows_of rows) (take f.count bounds)
+  pub shares_shown : FineFile f → l.rows.now.count ≡ f.count → f.count ≤ length l.rows.now.rows → f.count ≤ length bounds → AllShownAre l
+      → shares_in l ≡ shares_of (parts_in l.file.now f) (rows_of l.rows.now) (take f.count bounds)
   unfolding rows_of
   shares_shown fine count rows_room bounds_room shown =
-      ext_get_or no_share (shares_in s f rows bounds cs) (shares_of ps rs bs) (shares_count s f rows bounds cs ∙ sym long) same
-      ∙ ap (λ (m : ℕ). shares_of ps (take m rows.rows) bs) (sym count)
+      ext_get_or no_share (shares_in l) (shares_of ps rs bs) (shares_count l ∙ sym long) same
+      ∙ ap (λ (m : ℕ). shares_of ps (take m l.rows.now.rows) bs) (sym count)
     where
       ps : List PlanPart
-      ps = parts_in s f
+      ps = parts_in l.file.now f
 
       rs : List Row
-      rs = take f.count rows.rows
+      rs = take f.count l.rows.now.rows
 
       bs : List Frac
       bs = take f.count bounds
 
       ps_long : length ps ≡ f.count
-      ps_long = length-map (take f.count f.parts) (part_of s) ∙ length-take-le f.count f.parts (omega (arith, fine.few, fine.room))
+      ps_long = length-map (take f.count f.parts) (part_of l.file.now) ∙ length-take-le f.count f.parts (omega (arith, fine.few, fine.room))
 
       rs_long : length rs ≡ f.count
-      rs_long = length-take-le f.count rows.rows rows_room
+      rs_long = length-take-le f.count l.rows.now.rows rows_room
 
       bs_long : length bs ≡ f.count
       bs_long = length-take-le f.count bounds bounds_room
@@ -113,11 +121,11 @@ module _ (s : List ℕ) (f : PlanFile) (rows : Rows) (bounds : List Frac) (cs : 
       long : length (shares_of ps rs bs) ≡ f.count
       long = zip3_length share_of f.count ps rs bs ps_long rs_long bs_long
 
-      same : (k : ℕ) → k < length (shares_in s f rows bounds cs) → get_or (shares_in s f rows bounds cs) k no_share ≡ get_or (shares_of ps rs bs) k no_share
-      same k l =
-          let h : k < f.count = omega (arith, shares_count s f rows bounds cs) in
-          share_at s f rows bounds cs k h
-          ∙ share_shown s (read_at f k) (row_at rows k) (get_or bounds k no_frac) k cs (fine.counts k h) (shown k h)
-          ∙ sym (zip3_get share_of no_share (part_of s blank_part) no_row no_frac k ps rs bs (omega (arith, ps_long)) (omega (arith, rs_long)) (omega (arith, bs_long))
-          ∙ ap (λ (p : PlanPart). share_of p (get_or rs k no_row) (get_or bs k no_frac)) (part_at_lem s f k blank_part h)
-          ∙ ap₂ (share_of (part_of s (read_at f k))) (get_or-take f.count rows.rows k no_row h) (get_or-take f.count bounds k no_frac h))
+      same : (k : ℕ) → k < length (shares_in l) → get_or (shares_in l) k no_share ≡ get_or (shares_of ps rs bs) k no_share
+      same k i =
+          let h : k < f.count = omega (arith, shares_count l) in
+          share_at l k h
+          ∙ share_shown l.file.now (read_at f k) (row_at l.rows.now k) (get_or bounds k no_frac) k l.ceilings.now (fine.counts k h) (shown k h)
+          ∙ sym (zip3_get share_of no_share (part_of l.file.now blank_part) no_row no_frac k ps rs bs (omega (arith, ps_long)) (omega (arith, rs_long)) (omega (arith, bs_long))
+          ∙ ap (λ (p : PlanPart). share_of p (get_or rs k no_row) (get_or bs k no_frac)) (part_at_lem l.file.now f k blank_part h)
+          ∙ ap₂ (share_of (part_of l.file.now (read_at f k))) (get_or-take f.count l.rows.now.rows k no_row h) (get_or-take f.count bounds k no_frac h))

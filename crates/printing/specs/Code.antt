@@ -1,1 +1,2 @@
+pub mod ToPrint
 pub mod Printing

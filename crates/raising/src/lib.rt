@@ -2,110 +2,84 @@
 #![tactic(auto)]
 
 ghost use Rattle.std.specs.Prelude.{◌≡◌, ◌≤◌, ◌<◌};
-ghost use Rattle.refusal.specs.Limits.{number_limit};
 ghost use Rattle.task_set.specs.Code.ByColumn.{times_of, FineTimes};
 ghost use Rattle.holding.specs.Code.Search.{HintIs};
-ghost use Rattle.raising.specs.Code.Raising.{next_ceiling, ceiling_at, FineLocks, RaisedIs};
+ghost use Rattle.raising.specs.Code.Raising.{next_ceiling, ceiling_at, FineLock, FineLocks, RaisedIs};
 
-use holding::{Ceiling, Hint, Lowest};
+use demand::Workload;
+use holding::{Hint, Lowest};
 use refusal::NUMBER_LIMIT;
+use task_set::{Lock, Locks};
 
 // No time and no blocking is as great: it stands where there is none yet.
+// Kept: no Option, since it is above every x and every limit: the one test `x < time` serves both.
 pub const UNKNOWN: u64 = NUMBER_LIMIT + 1;
 
 // The ceiling of a lock at x, with its holding time, from those at a greater x; and the hint for the next lock.
 fn next_ceiling(
-    separations: &[u64; 16],
-    costs: &[u64; 16],
-    n: usize,
-    g: u64,
-    limit: u64,
+    tasks: &Workload,
+    lock: &Lock,
     ceiling: usize,
     time: u64,
     x: u64,
-    hint: Hint,
+    hint: &Hint,
 ) -> Lowest
-    requires { FineTimes separations.now costs.now n × (1 ≤ g) × (g ≤ number_limit) × (limit ≤ number_limit) × (ceiling ≤ 16) × (x < time) × HintIs (times_of separations.now costs.now n) hint }
-    ensures found { result.ceiling ≡ next_ceiling (times_of separations.now costs.now n) g limit ceiling time x }
-    ensures told { HintIs (times_of separations.now costs.now n) result.hint }
+    requires { FineTimes tasks.now × FineLock lock.now × (ceiling ≤ 16) × (x < time) × HintIs (times_of tasks.now) hint.now }
+    ensures found { result.held ≡ next_ceiling (times_of tasks.now) lock.now ceiling time x }
+    ensures told { HintIs (times_of tasks.now) result.hint }
 {
-    if time <= NUMBER_LIMIT {
-        return holding::lowest_within(separations, costs, n, g, limit, ceiling + 1, x, hint);
-    }
-    holding::lowest_within(separations, costs, n, g, limit, ceiling, x, hint)
+    let from = if time <= NUMBER_LIMIT {
+        ceiling + 1
+    } else {
+        ceiling
+    };
+    holding::lowest_within(tasks, lock.longest, lock.deadline, from, x, hint)
 }
 
-// The ceilings of all locks with their holding times, and X; none where some lock has none.
+// The ceilings of all locks with their holding times, and X.
+// Kept: two arrays, not one of `holding::Held`, since a blocking is asked for by the ceilings alone.
 #[derive(Clone, Copy)]
 pub struct Raised {
-    pub found: bool,
     pub ceilings: [usize; 8],
     pub times: [u64; 8],
     pub holding: u64,
 }
 
-// The lowest ceilings that are held for at most x, from those at a greater x.
+// The lowest ceilings that are held for at most x, from those at a greater x; none where some lock has none.
 pub fn raise(
-    separations: &[u64; 16],
-    costs: &[u64; 16],
-    n: usize,
-    longest: &[u64; 8],
-    limits: &[u64; 8],
+    tasks: &Workload,
+    locks: &Locks,
     m: usize,
-    ceilings: [usize; 8],
-    times: [u64; 8],
+    ceilings: &[usize; 8],
+    times: &[u64; 8],
     x: u64,
-) -> Raised
-    requires { FineTimes separations.now costs.now n × FineLocks longest.now limits.now ceilings m }
-    ensures { RaisedIs (ceiling_at (times_of separations.now costs.now n) longest.now limits.now ceilings times x) m result }
+) -> Option<Raised>
+    requires { FineTimes tasks.now × FineLocks locks.now ceilings.now m }
+    ensures { RaisedIs (ceiling_at (times_of tasks.now) locks.now ceilings.now times.now x) m result }
 {
-    let mut raised = ceilings;
-    let mut held = times;
-    let mut holding = 0;
+    let mut raised = Raised {
+        ceilings: *ceilings,
+        times: *times,
+        holding: 0,
+    };
     let mut hint = holding::no_hint();
-    let mut j = 0;
-    while j < m {
-        let time = held[j];
+    for j in 0..m {
         // A lock that is held for at most x keeps its ceiling.
-        if time <= x {
-            holding = least::larger(holding, time);
-            j += 1;
-            continue;
+        if x < raised.times[j] {
+            let next = next_ceiling(
+                tasks,
+                &locks[j],
+                raised.ceilings[j],
+                raised.times[j],
+                x,
+                &hint,
+            );
+            let held = next.held?;
+            raised.ceilings[j] = held.ceiling;
+            raised.times[j] = held.time;
+            hint = next.hint;
         }
-        let next = next_ceiling(
-            separations,
-            costs,
-            n,
-            longest[j],
-            limits[j],
-            raised[j],
-            time,
-            x,
-            hint,
-        );
-        hint = next.hint;
-        let ceiling = next.ceiling;
-        match ceiling {
-            Ceiling::Held(r, w) => {
-                raised[j] = r;
-                held[j] = w;
-                holding = least::larger(holding, w);
-                j += 1;
-            }
-            Ceiling::NotHeld => {
-                return Raised {
-                    found: false,
-                    ceilings,
-                    times,
-                    holding: 0,
-                };
-            }
-        }
+        raised.holding = raised.holding.max(raised.times[j]);
     }
-    Raised {
-        found: true,
-        ceilings: raised,
-        times: held,
-        holding,
-    }
+    Some(raised)
 }

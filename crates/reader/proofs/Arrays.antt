@@ -1,12 +1,12 @@
 -- The array of tasks that the reader fills: one more task and one more lock are one store each, and of the part that is closed it holds the tasks. No
 -- lock of this part is marked yet.
 -- Assumes nothing.
-use Prim.Native.Nat.{ℕ, zero, suc, ◌-◌, ◌≤◌, ◌<◌}
+use Prim.Native.Nat.{ℕ, ◌-◌, ◌≤◌, ◌<◌}
 use native.Mathlib.Omega.{arith}
 use mathlib.Core.Path.{◌≡◌, sym, ap, ap₂, ◌∙◌}
 use mathlib.Core.Bool.{Bool, false}
 use mathlib.Core.List.{List, [], ◌∷◌, ◌++◌, map, map-append, map-map, drop_last}
-use lib.ListN.{length, set, take, get_or, length-map, length-append}
+use lib.ListN.{length, set, take, length-map, length-append}
 use lib.Seq.{set_at}
 use Rattle.least.specs.Lists.{pad, on_last}
 use Rattle.least.proofs.Lists.{map_same}
@@ -32,14 +32,6 @@ module _ {A : Type 0} (k : ℕ) (z : A) (xs : List A) (n : ℕ) (count : length 
 
   take_at : n ≤ k → take n (pad k z xs) ≡ xs
   take_at h = rw (← count) (take_pad k z xs (omega arith))
-
--- what holds at every place holds there behind a store of something of which it holds
-pub set_each : {A : Type 0} (P : A → Type 0) (d : A) (xs : List A) (j : ℕ) (x : A) → ((k : ℕ) → P (get_or xs k d)) → P x → (k : ℕ) → P (get_or (set xs j x) k d)
-set_each P d [] j x all h k = all k
-set_each P d (y ∷ ys) zero x all h zero = h
-set_each P d (y ∷ ys) zero x all h (suc k) = all (suc k)
-set_each P d (y ∷ ys) (suc j) x all h zero = all zero
-set_each P d (y ∷ ys) (suc j) x all h (suc k) = set_each P d ys j x (λ i. all (suc i)) h k
 
 -- the array of a part's tasks
 abbrev pub array_of : FilePart → List Task

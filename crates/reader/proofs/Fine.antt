@@ -10,7 +10,6 @@ use lib.ListN.{length, take, get_or}
 use lib.Seq.{get_or-take, length-take-le}
 use Rattle.least.proofs.Lists.{nth_get}
 use Rattle.least.proofs.Members.{get_d_any, get_d_member}
-use Rattle.refusal.specs.declared.Outcome.TheVariants.{Done}
 use Rattle.refusal.specs.Limits.{number_limit}
 use Rattle.task_set.specs.declared.Task.{Task}
 use Rattle.task_set.specs.declared.Part.{Part}
@@ -21,7 +20,7 @@ use Rattle.plan_file.proofs.PlanParts.{FinePlanPart, parts_fine}
 use Rattle.reader.specs.declared.PartRead.{PartRead}
 use Rattle.reader.specs.declared.PlanFile.{PlanFile}
 use Rattle.reader.specs.Code.Reader.{part_of, parts_in, FineCounts, blank_part, ReadIs}
-use Rattle.reader.proofs.Handed.{handed_done, parts_count, part_at_lem}
+use Rattle.reader.proofs.Handed.{parts_count, part_at_lem}
 
 -- the struct's task at a place is one of the part's tasks, and within the part's locks it holds them as long
 task_member : (p : Part) → p.count ≤ length p.tasks → (k : ℕ) → k < p.count → Memᴰ (with_locks p.locks (get_or p.tasks k blank_task)) (tasks_of p)
@@ -66,7 +65,7 @@ part_fine s r counts fine = record {
 pub counts_at : (s : List ℕ) (f : PlanFile) → ReadIs s f → (k : ℕ) (d : PartRead) → k < f.count → FineCounts (get_or f.parts k d)
 counts_at s f is k d l = subst FineCounts (get_d_any f.parts k blank_part d (omega (arith, is.few, is.room))) (is.counts k l)
 
-pub handed_fine : (s : List ℕ) (f : PlanFile) → ReadIs s f → f.outcome ≡ Done → (k : ℕ) (d : PartRead) → k < f.count → PartFine (get_or f.parts k d).part
-handed_fine s f is done k d l =
+pub handed_fine : (s : List ℕ) (f : PlanFile) → ReadIs s f → (k : ℕ) (d : PartRead) → k < f.count → PartFine (get_or f.parts k d).part
+handed_fine s f is k d l =
     let m = get_d_member (parts_in s f) k (part_of s d) (omega (arith, parts_count s f is)) in
-    part_fine s (get_or f.parts k d) (counts_at s f is k d l) (subst FinePlanPart (part_at_lem s f k d l) (parts_fine s (parts_in s f) (handed_done s f is done) _ m))
+    part_fine s (get_or f.parts k d) (counts_at s f is k d l) (subst FinePlanPart (part_at_lem s f k d l) (parts_fine s (parts_in s f) is.value _ m))

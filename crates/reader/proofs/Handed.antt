@@ -1,33 +1,19 @@
 -- What the struct that the reader hands on says of the file.
 -- Assumes nothing.
 use Prim.Native.Nat.{ℕ, zero, suc, ◌-◌, ◌≤◌, ◌<◌}
-use mathlib.Core.Path.{◌≡◌, sym, ap, ◌∙◌}
+use mathlib.Core.Path.{◌≡◌, ap, ◌∙◌}
 use mathlib.Core.List.{List}
 use lib.ListN.{length, take, get_or, length-map, get_or-map}
 use lib.Seq.{get_or-take, length-take-le}
 use native.Mathlib.Omega.{arith}
 use Rattle.least.proofs.Lists.{nth_get}
 use Rattle.least.proofs.Members.{get_d_any}
-use Rattle.refusal.specs.declared.Refusal.{Refusal}
-use Rattle.refusal.specs.declared.Outcome.{Outcome}
-use Rattle.refusal.specs.declared.Outcome.TheVariants.{Done, Refused}
-use Rattle.refusal.specs.Questions.{when_done}
-use Rattle.refusal.specs.Questions.Answer.{answered, refused}
-use Rattle.plan_file.specs.Numbers.{no_plan_part, parts_of, part_at}
+use Rattle.plan_file.specs.Numbers.{no_plan_part, part_at}
 use Rattle.reader.specs.declared.PartRead.{PartRead}
 use Rattle.reader.specs.declared.PlanFile.{PlanFile}
-use Rattle.reader.specs.Code.Reader.{part_of, parts_in, file_of, ReadIs}
+use Rattle.reader.specs.Code.Reader.{part_of, parts_in, ReadIs}
 
 module _ (s : List ℕ) (f : PlanFile) (is : ReadIs s f) where
-  pub handed_refused : (r : Refusal) → f.outcome ≡ Refused r → parts_of s ≡ refused r
-  unfolding file_of when_done
-  handed_refused r e = sym is.value ∙ ap (λ (o : Outcome). when_done o (answered (parts_in s f))) e
-
-  -- the parts of a readable file are those that the struct holds
-  pub handed_done : f.outcome ≡ Done → parts_of s ≡ answered (parts_in s f)
-  unfolding file_of when_done
-  handed_done e = sym is.value ∙ ap (λ (o : Outcome). when_done o (answered (parts_in s f))) e
-
   pub parts_count : length (parts_in s f) ≡ f.count
   parts_count = length-map (take f.count f.parts) (part_of s) ∙ length-take-le f.count f.parts (omega (arith, is.few, is.room))
 

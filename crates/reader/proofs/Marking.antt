@@ -1,67 +1,62 @@
 -- The parts that were read line by line, marked one after another, are the parts of the file.
---   locks_at parts k               == the lock names of the part at the place k
---   marked marks r                 == the part r with these marks
---   Marking codes n before after k == `after` is `before` with the parts at the places below k marked
+--   Gathered s f codes k         == `codes` begins with the first k rows of f
+--   Marking rows before after k  == `after` is `before` with the parts at the places below k marked
 -- Assumes nothing.
 use Prim.Native.Nat.{ℕ, ◌+◌, ◌≤◌, ◌<◌}
+use native.Mathlib.Numerals.{add-one}
 use native.Mathlib.Omega.{arith}
 use native.Mathlib.Decide.{ℕ_discrete}
 use mathlib.Core.Path.{◌≡◌, refl, sym, ap, ap₂, subst, ◌∙◌}
-use mathlib.Core.Bool.{Bool, true}
-use mathlib.Core.List.{List, map}
+use mathlib.Core.Bool.{Bool}
+use mathlib.Core.List.{List, [], ◌∷◌, ◌++◌, map, map-map}
+use Rattle.std.proofs.Common.{Option}
 use lib.ListN.{length, take, get_or, set, length-map, length-set, get_or-map}
-use lib.Seq.{get_or-take, get_or-set_same, get_or-set_other, length-take-le}
+use lib.Seq.{take-suc, take-suc-set, take_all, get_or-take, get_or-set_same, get_or-set_other, length-take-le}
 use Rattle.least.proofs.Places.{get-map, map-take_each}
-use Rattle.refusal.specs.declared.Outcome.TheVariants.{Done}
-use Rattle.refusal.specs.Questions.{when_done}
+use Rattle.refusal.specs.Limits.{part_limit}
 use Rattle.refusal.specs.Questions.Answer.{answered}
-use Rattle.stretch.specs.declared.Span.{Span}
-use Rattle.task_set.specs.declared.Task.{Task}
 use Rattle.task_set.specs.Code.Tasks.{tasks_of}
-use Rattle.codes.specs.Code.Codes.{code_if}
-use Rattle.records.specs.declared.Cursor.{Cursor}
-use Rattle.plan_file.specs.declared.Names.{Names}
-use Rattle.plan_file.specs.declared.Seen.{Seen}
 use Rattle.plan_file.specs.Above.{FilePart, no_part, lock_names}
-use Rattle.plan_file.specs.Code.Entries.{names_of}
-use Rattle.plan_file.specs.Reading.{read_from}
 use Rattle.plan_file.specs.Numbers.{PlanPart, is_shared_in, plan_part, plan_parts, numbered}
 use Rattle.plan_file.proofs.Numbering.{read_from_fine}
-use Rattle.sharing.specs.Code.Sharing.{marks_at}
-use Rattle.sharing.proofs.Gathered.{Gathered}
-use Rattle.sharing.proofs.Named.{AllNumbersAre, marks_are}
+use Rattle.sharing.specs.Code.Sharing.{row_of, codes_of, marks_at}
+use Rattle.sharing.proofs.Named.{rows_of, marks_are}
 use Rattle.reader.specs.declared.PartRead.{PartRead}
-use Rattle.reader.specs.Code.Reader.{part_of, file_of, blank_part, FineCounts, ReadFromIs}
-use Rattle.reader.proofs.Stands.{part_alone}
-use Rattle.reader.proofs.Reading.{Reading, reading_fine, reading_counts, reading_answered, reading_parts, reading_spans}
+use Rattle.reader.specs.declared.PlanFile.{PlanFile}
+use Rattle.reader.specs.Code.Reader.{part_of, parts_in, spans_in, blank_part, FineCounts, part_alone, rows_in, marked, LinesFrom, SharedMarked, ReadFromIs}
 
-abbrev pub locks_at : List PartRead → ℕ → Names
-locks_at parts k = (get_or parts k blank_part).locks
+abbrev pub Gathered : List ℕ → PlanFile → List (List (Option ℕ)) → ℕ → Type 0
+Gathered s f codes k = (length codes ≡ part_limit) × (take k codes ≡ take k (rows_in s f))
 
-abbrev pub marked : List Bool → PartRead → PartRead
-marked marks r = record {
-  name = r.name;
-  part = record { period = r.part.period; tasks = r.part.tasks; count = r.part.count; locks = r.part.locks; shared = marks };
-  locks = r.locks;
-}
+pub gathered_step : (s : List ℕ) (f : PlanFile) (codes : List (List (Option ℕ))) (k : ℕ) (d : PartRead) → Gathered s f codes k → k < length (take f.count f.parts) → k < part_limit → Gathered s f (set codes k (codes_of s (get_or (take f.count f.parts) k d).locks)) (k + 1)
+gathered_step s f codes k d g h l =
+    let parts = take f.count f.parts in
+    let row : PartRead → List (Option ℕ) = λ p. codes_of s p.locks in (
+      length-set codes k _ ∙ g.0,
+      rw (add-one k, take-suc-set codes k _ (omega (arith, g.0)), take-suc (rows_in s f) k [] (rw (length-map parts row) h), get-map row parts k d [] h) (ap (λ (rows : List (List (Option ℕ))). rows ++ (codes_of s (get_or parts k d).locks ∷ [])) g.1),
+    )
 
-pub record Marking (codes : List ℕ) (n : ℕ) (before after : List PartRead) (k : ℕ) : Type 0 where
+pub gathered_all : (s : List ℕ) (f : PlanFile) (codes : List (List (Option ℕ))) (k : ℕ) → Gathered s f codes k → k ≡ f.count → length (take f.count f.parts) ≡ f.count → take f.count codes ≡ rows_in s f
+gathered_all s f codes k g e size =
+    rw e at g.1 ∙ take_all f.count (rows_in s f) (rw (length-map (take f.count f.parts) (λ (p : PartRead). codes_of s p.locks)) (omega (arith, size)))
+
+pub record Marking (rows : List (List (Option ℕ))) (before after : List PartRead) (k : ℕ) : Type 0 where
   pub room : length after ≡ length before
-  pub below : (i : ℕ) → i < k → get_or after i blank_part ≡ marked (marks_at codes n i) (get_or before i blank_part)
+  pub below : (i : ℕ) → i < k → get_or after i blank_part ≡ marked (marks_at rows i) (get_or before i blank_part)
   pub above : (i : ℕ) → k ≤ i → get_or after i blank_part ≡ get_or before i blank_part
 
-module _ (codes : List ℕ) (n : ℕ) (before : List PartRead) where
-  pub marking_start : Marking codes n before before 0
+module _ (rows : List (List (Option ℕ))) (before : List PartRead) where
+  pub marking_start : Marking rows before before 0
   marking_start = record { room = refl; below = λ i h. absurd (omega arith); above = λ i h. refl }
 
-  pub marking_step : (after : List PartRead) (k : ℕ) (marks : List Bool) → Marking codes n before after k → k < length before → marks ≡ marks_at codes n k → Marking codes n before (set after k (marked marks (get_or after k blank_part))) (k + 1)
+  pub marking_step : (after : List PartRead) (k : ℕ) (marks : List Bool) → Marking rows before after k → k < length before → marks ≡ marks_at rows k → Marking rows before (set after k (marked marks (get_or after k blank_part))) (k + 1)
   marking_step after k marks m h e = record {
     room = length-set after k _ ∙ m.room;
     below = λ i l. at i l (ℕ_discrete i k);
     above = λ i l. get_or-set_other after k i _ blank_part (λ q. absurd (omega (arith, q))) ∙ m.above i (omega arith);
   }
     where
-      at : (i : ℕ) → i < k + 1 → Dec (i ≡ k) → get_or (set after k (marked marks (get_or after k blank_part))) i blank_part ≡ marked (marks_at codes n i) (get_or before i blank_part)
+      at : (i : ℕ) → i < k + 1 → Dec (i ≡ k) → get_or (set after k (marked marks (get_or after k blank_part))) i blank_part ≡ marked (marks_at rows i) (get_or before i blank_part)
       at i l (yes q) = rw q (get_or-set_same after k _ blank_part (omega (arith, m.room)) ∙ ap₂ marked e (m.above k (omega arith)))
       at i l (no q) = get_or-set_other after k i _ blank_part q ∙ m.below i (omega (arith, q))
 
@@ -76,8 +71,8 @@ part_marked s ps p r marks e m =
       numbers = record { period = (e i).numbers.period; tasks = (e i).numbers.tasks; locks = (e i).numbers.locks; shared = (ap (λ (l : ℕ). take l marks) locks_are ∙ m) i };
     }
 
-counts_marked : (codes : List ℕ) (n k : ℕ) (r : PartRead) → FineCounts r → FineCounts (marked (marks_at codes n k) r)
-counts_marked codes n k r f = record {
+counts_marked : (codes : List (List (Option ℕ))) (k : ℕ) (r : PartRead) → FineCounts r → FineCounts (marked (marks_at codes k) r)
+counts_marked codes k r f = record {
   few = f.few;
   room = f.room;
   few_locks = f.few_locks;
@@ -86,60 +81,61 @@ counts_marked codes n k r f = record {
 }
 
 -- all parts are marked
-module _ (s codes : List ℕ) (n : ℕ) (before after : List PartRead) (fits : n ≤ length before) (g : Gathered s (locks_at before) codes n) (m : Marking codes n before after n) where
-  module _ (ps : List FilePart) (was : map (part_of s) (take n before) ≡ map part_alone ps) where
-    count_is : length ps ≡ n
-    count_is = sym (length-map ps part_alone) ∙ ap length (sym was) ∙ length-map (take n before) (part_of s) ∙ length-take-le n before fits
+module _ {first : ℕ} {s : List ℕ} {before after : PlanFile} (lines : LinesFrom first s before) (m : SharedMarked s before after) where
+  abbrev ps : List FilePart
+  ps = lines.parts
 
-    part_was : (k : ℕ) → k < n → part_of s (get_or before k blank_part) ≡ part_alone (get_or ps k no_part)
-    part_was k h =
-        ap (part_of s) (sym (get_or-take n before k blank_part h)) ∙ sym (get_or-map (part_of s) (take n before) k blank_part)
-        ∙ ap (λ (qs : List PlanPart). get_or qs k (part_of s blank_part)) was
-        ∙ get-map part_alone ps k no_part (part_of s blank_part) (omega (arith, count_is))
-
-    numbers_are : AllNumbersAre codes ps
-    unfolding part_of
-    numbers_are k h j l =
-        g.each k j (omega (arith, count_is)) l ∙ ap (λ (ns : List (List ℕ)). get_or (map code_if ns) j 0) (names_were k (omega (arith, count_is)))
-      where
-        names_were : (i : ℕ) → i < n → names_of s (locks_at before i) ≡ lock_names (get_or ps i no_part)
-        names_were i q = ap (λ (p : PlanPart). p.locks) (part_was i q)
-
-    parts_now : (first : ℕ) → read_from first s ≡ answered ps → map (part_of s) (take n after) ≡ plan_parts ps
-    parts_now first read =
-        map-take_each (part_of s) n after (plan_parts ps) blank_part (omega (arith, m.room, fits)) (length-map ps (plan_part ps) ∙ count_is)
-        (λ k h.
-        let p = get_or ps k no_part in
-        ap (part_of s) (m.below k h)
-        ∙ part_marked s ps p (get_or before k blank_part) (marks_at codes n k) (part_was k h)
-        (ap (λ (c : ℕ). take (length (lock_names p)) (marks_at codes c k)) (sym count_is) ∙ marks_are codes ps numbers_are (read_from_fine first s ps read) k (omega (arith, count_is)))
-        ∙ sym (get-map (plan_part ps) ps k no_part (part_of s blank_part) (omega (arith, h, count_is))))
-
-  names_now : map (λ p. p.name) (take n after) ≡ map (λ p. p.name) (take n before)
-  names_now =
-      map-take_each (λ p. p.name) n after (map (λ p. p.name) (take n before)) blank_part (omega (arith, m.room, fits)) (length-map (take n before) (λ p. p.name) ∙ length-take-le n before fits)
-      (λ k h.
-      ap (λ (p : PartRead). p.name) (m.below k h)
-      ∙ ap (λ (p : PartRead). p.name) (sym (get_or-take n before k blank_part h))
-      ∙ sym (get_or-map (λ p. p.name) (take n before) k blank_part))
-
--- when all is read and marked
-module _ {first : ℕ} (s : List ℕ) (c : Cursor) (seen : Seen) (opened : ℕ) (name : Span) (period : ℕ) (tasks : List Task) (all : List PartRead) (reading : Reading first s c seen opened name period tasks all) (h : length s ≤ c.at) (e : seen.ended ≡ true) where
   abbrev n : ℕ
-  n = seen.parts.count
+  n = before.count
 
-  pub reading_marked : (codes : List ℕ) (after : List PartRead) → Gathered s (locks_at all) codes n → Marking codes n all after n → ReadFromIs first s (record { outcome = Done; parts = after; count = n })
-  unfolding file_of when_done numbered
-  reading_marked codes after g m =
-      let few = (reading_fine s c seen opened name period tasks all reading).parts.few in
-      let room = reading.stands.room in
-      let fits : n ≤ length all = omega (arith, few, room) in
-      let read = reading_answered s c seen opened name period tasks all reading h e in
-      let was = reading_parts s c seen opened name period tasks all reading e in
-      record {
-        value = ap answered (parts_now s codes n all after fits g m reading.above.parts was first read) ∙ sym (ap numbered read);
-        few = few;
-        room = m.room ∙ room;
-        counts = λ k l. subst FineCounts (sym (m.below k l)) (counts_marked codes n k (get_or all k blank_part) (reading_counts s c seen opened name period tasks all reading k l));
-        spans = λ d. names_now s codes n all after fits g m ∙ reading_spans s c seen opened name period tasks all reading h e;
-      }
+  fits : n ≤ length before.parts
+  fits = omega (arith, lines.fine.few, lines.fine.room)
+
+  count_is : length ps ≡ n
+  count_is = sym (length-map ps part_alone) ∙ ap length (sym lines.are) ∙ length-map (take n before.parts) (part_of s) ∙ length-take-le n before.parts fits
+
+  part_was : (k : ℕ) → k < n → part_of s (get_or before.parts k blank_part) ≡ part_alone (get_or ps k no_part)
+  part_was k h =
+      ap (part_of s) (sym (get_or-take n before.parts k blank_part h)) ∙ sym (get_or-map (part_of s) (take n before.parts) k blank_part)
+      ∙ ap (λ (qs : List PlanPart). get_or qs k (part_of s blank_part)) lines.are
+      ∙ get-map part_alone ps k no_part (part_of s blank_part) (omega (arith, count_is))
+
+  rows_are : rows_in s before ≡ rows_of ps
+  unfolding part_of
+  rows_are =
+      let row : PlanPart → List (Option ℕ) = λ p. row_of p.locks in
+      sym (map-map row (part_of s) (take n before.parts)) ∙ ap (map row) lines.are ∙ map-map row part_alone ps
+
+  marks_now : (k : ℕ) → k < n → let names = lock_names (get_or ps k no_part) in take (length names) (marks_at (rows_in s before) k) ≡ map (is_shared_in ps) names
+  marks_now k h =
+      ap (λ (rows : List (List (Option ℕ))). take (length (lock_names (get_or ps k no_part))) (marks_at rows k)) rows_are
+      ∙ marks_are ps (read_from_fine first s ps lines.read) k (omega (arith, count_is))
+
+  -- of each part, what is the same for the first n
+  each_now : {A : Type 0} (f : PartRead → A) (xs : List A) → length xs ≡ n → ((k : ℕ) → k < n → f (marked (marks_at (rows_in s before) k) (get_or before.parts k blank_part)) ≡ get_or xs k (f blank_part)) → map f (take after.count after.parts) ≡ xs
+  each_now f xs size each =
+      ap (λ (k : ℕ). map f (take k after.parts)) m.count
+      ∙ map-take_each f n after.parts xs blank_part (omega (arith, m.room, fits)) size (λ k h. ap f (m.each k h) ∙ each k h)
+
+  parts_now : parts_in s after ≡ plan_parts ps
+  parts_now =
+      each_now (part_of s) (plan_parts ps) (length-map ps (plan_part ps) ∙ count_is)
+      (λ k h.
+      let p = get_or ps k no_part in
+      part_marked s ps p (get_or before.parts k blank_part) (marks_at (rows_in s before) k) (part_was k h) (marks_now k h)
+      ∙ sym (get-map (plan_part ps) ps k no_part (part_of s blank_part) (omega (arith, h, count_is))))
+
+  names_now : spans_in after ≡ spans_in before
+  names_now =
+      each_now (λ p. p.name) (spans_in before) (length-map (take n before.parts) (λ p. p.name) ∙ length-take-le n before.parts fits)
+      (λ k h. ap (λ (p : PartRead). p.name) (sym (get_or-take n before.parts k blank_part h)) ∙ sym (get_or-map (λ p. p.name) (take n before.parts) k blank_part))
+
+  pub lines_marked : ReadFromIs first s after
+  unfolding numbered
+  lines_marked = record {
+    value = ap numbered lines.read ∙ sym (ap answered parts_now);
+    few = rw m.count lines.fine.few;
+    room = m.room ∙ lines.fine.room;
+    counts = λ k l. let h : k < n = rw m.count at l in subst FineCounts (sym (m.each k h)) (counts_marked (rows_in s before) k (get_or before.parts k blank_part) (lines.fine.counts k h));
+    spans = names_now ∙ lines.spans;
+  }

@@ -1,16 +1,16 @@
 -- What the reader's locals say of the lines above: what it has seen, the name, the period and the tasks of the last part, and the parts before it.
 -- Each record that is entered keeps it so.
---   part_alone p == the part p as it would be in a file by itself
 -- Assumes nothing.
-use Prim.Native.Nat.{ℕ, suc, ◌-◌, ◌≤◌, ◌<◌}
+use Prim.Native.Nat.{ℕ, suc, ◌+◌, ◌-◌, ◌≤◌, ◌<◌}
 use native.Mathlib.Omega.{arith}
+use native.Mathlib.Decide.{ℕ_discrete}
 use mathlib.Core.Path.{◌≡◌, refl, sym, ap, ap₂, ◌∙◌}
 use mathlib.Core.Bool.{true, false, false≢true}
 use mathlib.Core.List.{List, [], ◌∷◌, ◌++◌, map, map-append, drop_last}
 use lib.ListN.{length, take, set, get_or, length-set, length-append}
-use lib.Seq.{take-suc-set, take-set-le}
+use lib.Seq.{take-suc-set, take-set-le, get_or-set_same, get_or-set_other}
 use Rattle.least.specs.Lists.{pad, last_or, on_last}
-use Rattle.least.proofs.Pad.{length_pad, get_d_pad_fits}
+use Rattle.least.proofs.Pad.{length_pad}
 use Rattle.least.proofs.Last.{last_split, drop_last_snoc, drop_last_on_last, length_on_last}
 use Rattle.stretch.specs.declared.Span.{Span}
 use Rattle.stretch.specs.Stretch.{bytes_of}
@@ -21,20 +21,16 @@ use Rattle.task_set.specs.Code.Tasks.{tasks_of}
 use Rattle.records.specs.Records.Record.{part, task, lock, end}
 use Rattle.plan_file.specs.declared.Seen.{Seen}
 use Rattle.plan_file.specs.Above.{FileLock, FileTask, FilePart, Above, no_part, nothing_above, this_part, this_task, lock_names, with_lock, with_tasks, parts_after, after}
-use Rattle.plan_file.specs.Numbers.{PlanPart, tasks_in, is_shared_in, plan_part}
+use Rattle.plan_file.specs.Numbers.{PlanPart, tasks_in, is_shared_in}
 use Rattle.plan_file.specs.Reading.{is_end, locks_of}
 use Rattle.plan_file.specs.Stretches.{no_span}
 use Rattle.plan_file.specs.Code.Entries.{no_task_read, none_seen, names_of, place_among, seen_part, seen_task, seen_lock, seen_end}
-use Rattle.plan_file.proofs.SeenNames.{fine_none}
 use Rattle.plan_file.proofs.SeenTasks.{task_with}
 use Rattle.plan_file.proofs.SeenPart.{stored_use, task_count, lock_count, task_after_lock}
 use Rattle.plan_file.proofs.SeenAbove.{SeenIs, part_count, task_of, lock_of, this_part_part, this_part_task, this_part_lock, seen_is_start, seen_is_part, seen_is_task, seen_is_lock, seen_is_end}
 use Rattle.reader.specs.declared.PartRead.{PartRead}
-use Rattle.reader.specs.Code.Reader.{part_of, FineCounts, closed_part, no_part_read}
-use Rattle.reader.proofs.Arrays.{set_each, array_of, array_task, array_lock, tasks_closed, none_marked}
-
-abbrev pub part_alone : FilePart → PlanPart
-part_alone p = plan_part (p ∷ []) p
+use Rattle.reader.specs.Code.Reader.{part_of, FineCounts, part_alone, closed_part, blank_part}
+use Rattle.reader.proofs.Arrays.{array_of, array_task, array_lock, tasks_closed, none_marked}
 
 -- the last part
 pub record Holds (s : List ℕ) (name : Span) (period : ℕ) (tasks : List Task) (p : FilePart) : Type 0 where
@@ -48,22 +44,18 @@ pub record Stands (s : List ℕ) (seen : Seen) (opened : ℕ) (name : Span) (per
   pub open_is : opened ≡ length a.parts - 1
   pub room : length all ≡ 16
   pub closed : map (part_of s) (take opened all) ≡ map part_alone (drop_last a.parts)
-  pub counts : (k : ℕ) → FineCounts (get_or all k no_part_read)
-  pub complete : is_end a.directly ≡ true → map (part_of s) (take (length a.parts) all) ≡ map part_alone a.parts
+  pub counts : (k : ℕ) → k < opened → FineCounts (get_or all k blank_part)
+  pub complete : is_end a.directly ≡ true → (map (part_of s) (take (length a.parts) all) ≡ map part_alone a.parts) × ((k : ℕ) → k < length a.parts → FineCounts (get_or all k blank_part))
 
-none_counted : FineCounts no_part_read
-unfolding closed_part
-none_counted = record { few = omega arith; room = length_pad 16 no_task_read []; few_locks = omega arith; locks_are = refl; names = fine_none }
-
-pub stands_start : (s : List ℕ) → Stands s none_seen 0 no_span 0 (pad 16 no_task_read []) (pad 16 no_part_read []) nothing_above
+pub stands_start : (s : List ℕ) (all : List PartRead) → length all ≡ 16 → Stands s none_seen 0 no_span 0 (pad 16 no_task_read []) all nothing_above
 unfolding last_or is_end bytes_of
-stands_start s = record {
+stands_start s all room = record {
   seen_is = seen_is_start s;
   last = record { called = refl; period_is = refl; tasks_are = refl };
   open_is = refl;
-  room = length_pad 16 no_part_read [];
+  room = room;
   closed = refl;
-  counts = λ k. rw (get_d_pad_fits 16 no_part_read [] k (omega arith)) none_counted;
+  counts = λ k h. absurd (omega arith);
   complete = λ e. absurd (false≢true e);
 }
 
@@ -104,8 +96,12 @@ module _ (s : List ℕ) (seen : Seen) (opened : ℕ) (name : Span) (period : ℕ
       record { few = is.fine_tasks.few; room = ap length stands.last.tasks_are ∙ length_pad 16 no_task_read _; few_locks = is.few_locks; locks_are = refl; names = is.fine_locks }
 
   -- with the last part stored, every place is right
-  all_counted : (k : ℕ) → FineCounts (get_or (set all opened last_read) k no_part_read)
-  all_counted = set_each FineCounts no_part_read all opened last_read stands.counts last_counted
+  all_counted : (k : ℕ) → k < opened + 1 → FineCounts (get_or (set all opened last_read) k blank_part)
+  all_counted k h = go (ℕ_discrete k opened)
+    where
+      go : Dec (k ≡ opened) → FineCounts (get_or (set all opened last_read) k blank_part)
+      go (yes e) = rw (e, get_or-set_same all opened last_read blank_part (omega (arith, open_small, stands.room))) last_counted
+      go (no n) = rw (get_or-set_other all opened k last_read blank_part n) (stands.counts k (omega (arith, n)))
 
   some_read : 1 ≤ length a.parts → map (part_of s) (take (length a.parts) (set all opened last_read)) ≡ map part_alone a.parts
   some_read h =
@@ -131,7 +127,7 @@ module _ (s : List ℕ) (seen : Seen) (opened : ℕ) (name : Span) (period : ℕ
     open_is = rw length-append (omega (arith, parts_are));
     room = length-set all opened last_read ∙ stands.room;
     closed = rw (drop_last_snoc a.parts, ← parts_are) all_read;
-    counts = all_counted;
+    counts = λ k l. all_counted k (omega (arith, parts_are, stands.open_is));
     complete = λ e. absurd (false≢true e);
   }
 
@@ -191,6 +187,6 @@ module _ (s : List ℕ) (seen : Seen) (opened : ℕ) (name : Span) (period : ℕ
     open_is = stands.open_is;
     room = length-set all opened last_read ∙ stands.room;
     closed = rw (take-set-le opened all opened last_read (omega arith)) stands.closed;
-    counts = all_counted;
-    complete = λ e. all_read;
+    counts = λ k h. all_counted k (omega arith);
+    complete = λ e. (all_read, λ k h. all_counted k (omega (arith, stands.open_is)));
   }

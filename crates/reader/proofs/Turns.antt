@@ -6,6 +6,7 @@ use borrow.Author.Tests.{eq-eqb, ne_eqb}
 use mathlib.Core.Bool.{true, false}
 use mathlib.Core.Path.{◌≡◌, refl, sym, ap, ◌∙◌, subst, subst₂}
 use mathlib.Core.List.{List, []}
+use Rattle.std.proofs.Common.{Ok}
 use lib.ListN.{length, set}
 use Rattle.least.specs.Lists.{pad}
 use Rattle.stretch.specs.declared.Span.{Span}
@@ -33,7 +34,7 @@ use Rattle.reader.proofs.Stands.{Stands, open_small, stands_part, stands_task, s
 use Rattle.reader.proofs.Spans.{Spanned, spanned_same, spanned_end, spanned_part}
 use Rattle.reader.proofs.Reading.{Reading, record_done}
 
-module _ {n : ℕ} (s : List ℕ) (c : Cursor) (seen : Seen) (opened : ℕ) (name : Span) (period : ℕ) (tasks : List Task) (all : List PartRead) (reading : Reading n s c seen opened name period tasks all) (r : Shape) (next : Cursor) (at : RecordIs s c r next) where
+module _ {n : ℕ} {s : List ℕ} {c : Cursor} {seen : Seen} {opened : ℕ} {name : Span} {period : ℕ} {tasks : List Task} {all : List PartRead} (reading : Reading n s c seen opened name period tasks all) {r : Shape} {next : Cursor} (at : RecordIs s c r next) where
   abbrev a : Above
   a = reading.above
 
@@ -69,7 +70,7 @@ module _ {n : ℕ} (s : List ℕ) (c : Cursor) (seen : Seen) (opened : ℕ) (nam
   same_names : (x : Record) → record_as s r ≡ x → span_on c.at x ≡ [] → Spanned s next.at seen.parts.count opened name all false
   same_names x e h = spanned_same s c r next at seen.parts.count opened name all seen.ended reading.spanned (no_name x e h)
 
-  module _ (nm : Span) (v : ℕ) (is : entry_of s c.line seen r ≡ PartEntry nm v) where
+  module _ {nm : Span} {v : ℕ} (is : entry_of s c.line seen r ≡ Ok (PartEntry nm v)) where
     entered_part : PartEntered s seen c.line a r nm v
     entered_part = part_entered s seen a reading.stands.seen_is c.line r nm v is
 
@@ -85,7 +86,7 @@ module _ {n : ℕ} (s : List ℕ) (c : Cursor) (seen : Seen) (opened : ℕ) (nam
         subst (λ (x : ℕ). Reading n s next (seen_part seen nm) seen.parts.count nm x (pad 16 no_task_read []) (set all opened closed)) (sym e.value)
         (goes_on (part (bytes_of s nm) (bytes_of s e.period)) e.is e.done to names)
 
-  module _ (nm : Span) (u v w : ℕ) (is : entry_of s c.line seen r ≡ TaskEntry nm u v w) where
+  module _ {nm : Span} {u v w : ℕ} (is : entry_of s c.line seen r ≡ Ok (TaskEntry nm u v w)) where
     entered_task : TaskEntered s seen c.line a r nm u v w
     entered_task = task_entered s seen a reading.stands.seen_is c.line r nm u v w is
 
@@ -107,7 +108,7 @@ module _ {n : ℕ} (s : List ℕ) (c : Cursor) (seen : Seen) (opened : ℕ) (nam
         subst (λ (t : Task). Reading n s next (seen_task seen nm t) opened name period (set tasks seen.tasks.count t) all) (sym same)
         (goes_on (task (bytes_of s nm) e.T e.C e.D) e.is e.done to (same_names _ e.is refl))
 
-  module _ (nm : Span) (j v : ℕ) (is : entry_of s c.line seen r ≡ LockEntry nm j v) where
+  module _ {nm : Span} {j v : ℕ} (is : entry_of s c.line seen r ≡ Ok (LockEntry nm j v)) where
     entered_lock : LockEntered s seen c.line a r nm j v
     entered_lock = lock_entered s seen a reading.stands.seen_is c.line r nm j v is
 
@@ -139,7 +140,7 @@ module _ {n : ℕ} (s : List ℕ) (c : Cursor) (seen : Seen) (opened : ℕ) (nam
     unfolding seen_lock with_lock_name
     reading_known_lock e = simp (ne_eqb _ _ e) at reading_lock
 
-  pub reading_end : entry_of s c.line seen r ≡ EndEntry → Reading n s next (seen_end seen) opened name period tasks (set all opened closed)
+  pub reading_end : entry_of s c.line seen r ≡ Ok EndEntry → Reading n s next (seen_end seen) opened name period tasks (set all opened closed)
   unfolding seen_end span_on closed_part
   reading_end is =
       let e = end_entered s seen a reading.stands.seen_is c.line r is in

@@ -1,12 +1,12 @@
 // The reader of a plan file: questions 1 to 9, line by line, then which locks are shared.
 #![tactic(auto)]
 
-ghost use Rattle.std.specs.Prelude.{◌≡◌, ◌<◌, ◌^◌};
-ghost use Rattle.reader.specs.Code.Reader.{no_part_read, closed_part, refused_file, ReadFromIs};
+ghost use Rattle.std.specs.Prelude.{◌≡◌, ◌<◌, ◌^◌, MatchResult, IfErr};
+ghost use Rattle.reader.specs.Code.Reader.{closed_part, LinesFrom, PartsFine, SharedMarked, ReadFromIs, RefusedFrom};
 
-use plan_file::{Entry, Names, Seen};
+use plan_file::{Entry, NO_NAMES, NO_TASK, Names, Seen};
 use records::{Cursor, Next};
-use refusal::{CEILING_PLACES, FILE_LIMIT, Outcome, Refusal};
+use refusal::{FILE_LIMIT, LOCK_LIMIT, PART_LIMIT, Refusal, TASK_LIMIT};
 use stretch::Span;
 use task_set::{Part, Task};
 
@@ -18,180 +18,177 @@ pub struct PartRead {
     pub locks: Names,
 }
 
-// What was read: the parts of the file and their count, or the refusal.
+// What was read: the parts of the file and their count.
+// Kept: an array with a count, as memory is fixed: a rule of the project.
 #[derive(Clone, Copy)]
 pub struct PlanFile {
-    pub outcome: Outcome,
-    pub parts: [PartRead; 16],
+    pub parts: [PartRead; PART_LIMIT],
     pub count: usize,
 }
 
+impl PlanFile {
+    // A place for what is read, with nothing in it.
+    pub fn new() -> PlanFile
+        ensures { result.count ≡ 0 }
+    {
+        PlanFile {
+            parts: [no_part(); PART_LIMIT],
+            count: 0,
+        }
+    }
+}
+
+// A part of which nothing was read.
+// Kept: a function beside `new`: written there, `new` takes 42 KB of stack (measured), as a call of this it takes none.
+fn no_part() -> PartRead {
+    PartRead {
+        name: Span { start: 0, len: 0 },
+        part: Part {
+            period: 0,
+            tasks: [NO_TASK; TASK_LIMIT],
+            count: 0,
+            locks: 0,
+            shared: [false; LOCK_LIMIT],
+        },
+        locks: NO_NAMES,
+    }
+}
+
 // A part with all that was read of it. Whether another part names its locks is not known before the last line.
-fn closed_part(name: Span, period: u64, tasks: [Task; 16], count: usize, locks: Names) -> PartRead
-    ensures { result ≡ closed_part name period tasks count locks }
+fn closed_part(name: Span, period: u64, tasks: &[Task; TASK_LIMIT], seen: &Seen) -> PartRead
+    ensures { result ≡ closed_part name period tasks.now seen.now.tasks.count seen.now.locks }
 {
     PartRead {
         name,
         part: Part {
             period,
-            tasks,
-            count,
-            locks: locks.count,
-            shared: [false; 8],
+            tasks: *tasks,
+            count: seen.tasks.count,
+            locks: seen.locks.count,
+            shared: [false; LOCK_LIMIT],
         },
-        locks,
+        locks: seen.locks,
     }
 }
 
-fn no_part() -> PartRead
-    ensures { result ≡ no_part_read }
-{
-    let none = plan_file::no_task();
-    let names = plan_file::no_names();
-    closed_part(Span { start: 0, len: 0 }, 0, [none; 16], 0, names)
-}
-
-fn refused_file(r: Refusal) -> PlanFile
-    ensures { result ≡ refused_file r }
-{
-    let none = no_part();
-    PlanFile {
-        outcome: Outcome::Refused(r),
-        parts: [none; 16],
-        count: 0,
-    }
-}
-
-// A file whose first line has this number: its lines are read, then the locks of its parts are marked.
-pub fn read_file(s: &[u8], first: u64) -> PlanFile
+// Reads the lines of a file whose first line has this number. No lock is marked yet.
+fn read_lines(s: &[u8], first: u64, f: &mut PlanFile) -> Result<(), Refusal>
     requires { first < 2 ^ 62 }
-    ensures { ReadFromIs first s.now result }
+    ensures read { MatchResult result (λ _. LinesFrom first s.now f.new) (RefusedFrom first s.now) }
+    ensures refused { IfErr result (λ _. f.new.count ≡ 0) }
 {
+    f.count = 0;
     if FILE_LIMIT < s.len() {
-        return refused_file(Refusal::FileTooLong);
+        return Err(Refusal::FileTooLong);
     }
     let mut c = Cursor::new(first);
-    let no_one = plan_file::no_task();
-    let none = plan_file::no_names();
-    let nothing = no_part();
-    let mut all = [nothing; 16];
+    // The part that is read, and its place.
     let mut open = 0;
     let mut name = Span { start: 0, len: 0 };
     let mut period = 0;
-    let mut tasks = [no_one; 16];
-    // The fields of `Seen`, stored to in place.
-    let mut fresh = false;
-    let mut ended = false;
-    let mut parts = none;
-    let mut task_names = none;
-    let mut locks = none;
-    let mut last = no_one;
-    // The numbers of the names of the part's tasks and locks.
+    let mut tasks = [NO_TASK; TASK_LIMIT];
+    let mut seen = Seen {
+        fresh: false,
+        ended: false,
+        parts: NO_NAMES,
+        tasks: NO_NAMES,
+        locks: NO_NAMES,
+        last: NO_TASK,
+    };
+    // The numbers of the names of its tasks and locks.
     let mut task_codes = [0u64; 16];
     let mut lock_codes = [0u64; 16];
     loop {
         let line = c.line;
         match c.next(s) {
             Next::Over => {
-                if ended {
-                    break;
+                if seen.ended {
+                    f.count = seen.parts.count;
+                    return Ok(());
                 }
-                return refused_file(Refusal::Misplaced(line));
+                return Err(Refusal::Misplaced(line));
             }
             Next::Broken => {
-                return refused_file(Refusal::BadLine(line));
+                return Err(Refusal::BadLine(line));
             }
             Next::Record(shape, next) => {
-                let n = task_names.count;
-                let m = locks.count;
-                let seen = Seen {
-                    fresh,
-                    ended,
-                    parts,
-                    tasks: task_names,
-                    locks,
-                    last,
-                };
-                match questions::entry_at(s, line, seen, shape, &task_codes, &lock_codes) {
-                    Entry::Refused(r) => {
-                        return refused_file(r);
-                    }
+                let n = seen.tasks.count;
+                let m = seen.locks.count;
+                let entry = questions::entry_at(s, line, &seen, shape, &task_codes, &lock_codes)?;
+                match entry {
                     Entry::Part(new_name, new_period) => {
-                        let done = closed_part(name, period, tasks, n, locks);
-                        all[open] = done;
-                        open = parts.count;
+                        f.parts[open] = closed_part(name, period, &tasks, &seen);
+                        open = seen.parts.count;
                         name = new_name;
                         period = new_period;
-                        tasks = [no_one; 16];
-                        parts.span[open] = new_name;
-                        parts.count = open + 1;
-                        task_names = none;
-                        locks = none;
-                        last = no_one;
-                        fresh = true;
-                        ended = false;
-                        c = next;
+                        tasks = [NO_TASK; TASK_LIMIT];
+                        seen.parts.span[open] = new_name;
+                        seen.parts.count = open + 1;
+                        seen.tasks = NO_NAMES;
+                        seen.locks = NO_NAMES;
+                        seen.last = NO_TASK;
+                        seen.fresh = true;
+                        seen.ended = false;
                     }
                     Entry::Task(task_name, separation, cost, deadline) => {
-                        last = Task {
+                        seen.last = Task {
                             separation,
                             cost,
                             deadline,
                             uses: [0; 8],
                         };
-                        tasks[n] = last;
-                        task_names.span[n] = task_name;
-                        task_names.count = n + 1;
-                        task_codes[n] = codes::name_code(stretch::bytes(s, task_name));
-                        fresh = false;
-                        ended = false;
-                        c = next;
+                        tasks[n] = seen.last;
+                        seen.tasks.span[n] = task_name;
+                        seen.tasks.count = n + 1;
+                        task_codes[n] = codes::name_code(stretch::bytes(s, task_name)).unwrap();
+                        seen.fresh = false;
+                        seen.ended = false;
                     }
                     Entry::Lock(lock_name, j, held) => {
-                        last.uses[j] = held;
-                        tasks[n - 1] = last;
-                        fresh = false;
-                        ended = false;
-                        c = next;
+                        seen.last.uses[j] = held;
+                        tasks[n - 1] = seen.last;
+                        seen.fresh = false;
+                        seen.ended = false;
                         if j == m {
-                            locks.span[m] = lock_name;
-                            locks.count = m + 1;
-                            lock_codes[m] = codes::name_code(stretch::bytes(s, lock_name));
+                            seen.locks.span[m] = lock_name;
+                            seen.locks.count = m + 1;
+                            lock_codes[m] = codes::name_code(stretch::bytes(s, lock_name)).unwrap();
                         }
                     }
                     Entry::End => {
-                        let done = closed_part(name, period, tasks, n, locks);
-                        all[open] = done;
-                        fresh = false;
-                        ended = true;
-                        c = next;
+                        f.parts[open] = closed_part(name, period, &tasks, &seen);
+                        seen.fresh = false;
+                        seen.ended = true;
                     }
                 }
+                c = next;
             }
         }
     }
-    let n = parts.count;
-    let mut codes = [0u64; CEILING_PLACES];
-    let mut k = 0;
-    while k < n {
-        let p = all[k];
-        let names = p.locks;
-        sharing::put_codes(s, names, k, &mut codes);
-        k += 1;
+}
+
+// Marks the locks that more than one part names.
+fn mark_shared(s: &[u8], f: &mut PlanFile)
+    requires { PartsFine f.old }
+    ensures { SharedMarked s.now f.old f.new }
+{
+    let n = f.count;
+    let mut codes = [[None; LOCK_LIMIT]; PART_LIMIT];
+    for (k, part) in f.parts[..n].iter().enumerate() {
+        sharing::put_codes(s, &part.locks, k, &mut codes);
     }
-    k = 0;
-    while k < n {
-        let marks = sharing::marks_at(&codes, n, k);
-        let mut p = all[k];
-        let mut part = p.part;
-        part.shared = marks;
-        p.part = part;
-        all[k] = p;
-        k += 1;
+    for k in 0..n {
+        f.parts[k].part.shared = sharing::marks_at(&codes[..n], k);
     }
-    PlanFile {
-        outcome: Outcome::Done,
-        parts: all,
-        count: n,
-    }
+}
+
+// Reads a file whose first line has this number: its lines, then which locks of its parts are shared. What is read lies where the caller says, as it takes 27 KB.
+pub fn read_file(s: &[u8], first: u64, f: &mut PlanFile) -> Result<(), Refusal>
+    requires { first < 2 ^ 62 }
+    ensures read { MatchResult result (λ _. ReadFromIs first s.now f.new) (RefusedFrom first s.now) }
+    ensures refused { IfErr result (λ _. f.new.count ≡ 0) }
+{
+    read_lines(s, first, f)?;
+    mark_shared(s, f);
+    Ok(())
 }

@@ -59,28 +59,28 @@ module _ (s : List ℕ) (at : ℕ) (l : Scanned) (places : (j : ℕ) → get_or 
     where
       go : (t : Bool) → eqb l.tabs.count 2 ≡ t → Named (cond t (Part (field l 1) (field l 2)) Unknown)
       go true c name P h = name_field c (word_end c e) name cc
-      go false c name P h = absurd (let z : ◌≡◌ {A = ℕ} 0 1 = cc in omega arith)
+      go false c name P h = cc
 
   -- of the other records there is nothing to say
   named_if : (t : Bool) (r : Shape) → Named r → Named (cond t r Unknown)
   named_if true r h name P e = h name P e
-  named_if false r h name P e = absurd (let z : ◌≡◌ {A = ℕ} 0 1 = cc in omega arith)
+  named_if false r h name P e = cc
 
   named_task : Named (task_shape l)
   unfolding task_shape
-  named_task = named_if (eqb l.tabs.count 4) _ (λ name P h. absurd (let z : ◌≡◌ {A = ℕ} 0 1 = cc in omega arith))
+  named_task = named_if (eqb l.tabs.count 4) _ (λ name P h. cc)
 
   named_lock : Named (lock_shape l)
   unfolding lock_shape
-  named_lock = named_if (eqb l.tabs.count 2) _ (λ name P h. absurd (let z : ◌≡◌ {A = ℕ} 0 1 = cc in omega arith))
+  named_lock = named_if (eqb l.tabs.count 2) _ (λ name P h. cc)
 
   named_end : Named (end_shape l)
   unfolding end_shape
-  named_end = named_if (eqb l.tabs.count 0) _ (λ name P h. absurd (let z : ◌≡◌ {A = ℕ} 0 1 = cc in omega arith))
+  named_end = named_if (eqb l.tabs.count 0) _ (λ name P h. cc)
 
   pub name_stands : (name P : Span) → shape_of (word_of (bytes_of s (first_field at l))) l ≡ Part name P → name ≡ name_span at (bytes_of s name)
   unfolding shape_of
   name_stands =
       by_word (λ w word. w ≡ bytes_of s (first_field at l) → Named (shape_of word l)) named_part (λ e. named_task) (λ e. named_lock) (λ e. named_end)
-      (λ w n e name P h. absurd (let z : ◌≡◌ {A = ℕ} 0 1 = cc in omega arith))
+      (λ w n e name P h. cc)
       (bytes_of s (first_field at l)) refl

@@ -3,7 +3,10 @@
 use Prim.Native.Nat.{ℕ, ◌+◌, min}
 use native.Mathlib.Omega.{arith}
 use mathlib.Core.Path.{◌≡◌, refl, ap, ◌∙◌}
-use mathlib.Core.Bool.{Bool, true, false}
+use mathlib.Core.Bool.{Bool, true, false, cond, ◌&&◌}
+use lib.Dec.{eqb}
+use Rattle.records.specs.declared.Shape.{Shape}
+use Rattle.records.specs.declared.Shape.TheVariants.{Part, Task, Lock, End, Unknown}
 use mathlib.Core.List.{List, [], ◌∷◌}
 use lib.ListN.{length}
 use Rattle.least.specs.Lists.{pad}
@@ -14,8 +17,8 @@ use Rattle.scan.specs.declared.Scanned.{Scanned}
 use Rattle.scan.specs.Positions.{first_five}
 use Rattle.scan.proofs.Scan.{good_at}
 use Rattle.scan.proofs.Lines.{the_line, the_end, the_tabs}
-use Rattle.records.specs.declared.Word.{Word}
-use Rattle.records.specs.declared.Word.TheVariants.{PartWord, TaskWord, LockWord, EndWord, NoWord}
+use Rattle.records.specs.Code.Shapes.{Word}
+use Rattle.records.specs.Code.Shapes.Word.{PartWord, TaskWord, LockWord, EndWord, NoWord}
 use Rattle.records.specs.Records.{record_of, record_in}
 use Rattle.records.specs.Records.Record.{no_record}
 use Rattle.records.specs.Code.Shapes.{up_to, end_of, first_field, field, word_of, part_shape, task_shape, lock_shape, end_shape, shape_of}
@@ -44,6 +47,21 @@ by_word P p t l e n w = go (same w (bytes "part")) (same w (bytes "task")) (same
     go false false true d h i j k = simp (h, i, j) (spelt (bytes "lock") LockWord j l)
     go false false false true h i j k = simp (h, i, j, k) (spelt (bytes "end") EndWord k e)
     go false false false false h i j k = simp (h, i, j, k) (n w (record { part = h; task = i; lock = j; end = k }))
+
+-- the record by the tests of `shape_of`: each of the word and of the count of tabs
+abbrev pub shape_by : List ℕ → Scanned → Shape
+shape_by w l =
+    cond (same w (bytes "part") && eqb l.tabs.count 2) (Part (field l 1) (field l 2))
+    (cond (same w (bytes "task") && eqb l.tabs.count 4) (Task (field l 1) (field l 2) (field l 3) (field l 4))
+    (cond (same w (bytes "lock") && eqb l.tabs.count 2) (Lock (field l 1) (field l 2))
+    (cond (same w (bytes "end") && eqb l.tabs.count 0) End
+    Unknown)))
+
+pub shape_by_word : (w : List ℕ) (l : Scanned) → shape_by w l ≡ shape_of (word_of w) l
+unfolding shape_of part_shape task_shape lock_shape end_shape same bytes
+shape_by_word w l =
+    by_word (λ v word. shape_by v l ≡ shape_of word l) refl refl refl refl
+    (λ v n. simp (n.part, n.task, n.lock, n.end)) w
 
 no_word : (w : List ℕ) (fs : List (List ℕ)) → NoneOf w → record_of (w ∷ fs) ≡ no_record
 unfolding record_of

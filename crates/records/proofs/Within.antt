@@ -10,8 +10,8 @@ use lib.ListN.{length, get_or}
 use Rattle.scan.specs.declared.Scanned.{Scanned}
 use Rattle.records.specs.declared.Shape.{Shape}
 use Rattle.records.specs.declared.Shape.TheVariants.{Part, Task, Lock, End, Unknown}
-use Rattle.records.specs.declared.Word.{Word}
-use Rattle.records.specs.declared.Word.TheVariants.{PartWord, TaskWord, LockWord, EndWord, NoWord}
+use Rattle.records.specs.Code.Shapes.{Word}
+use Rattle.records.specs.Code.Shapes.Word.{PartWord, TaskWord, LockWord, EndWord, NoWord}
 use Rattle.records.specs.Code.Shapes.{up_to, end_of, first_field, field, part_shape, task_shape, lock_shape, end_shape, shape_of}
 use Rattle.records.specs.Code.Cursor.{Within, FieldsWithin}
 

@@ -1,8 +1,9 @@
 // Records: a cursor that goes on line by line and hands back the next cursor and the record.
 #![tactic(auto)]
 
-ghost use Rattle.std.specs.Prelude.{◌≡◌, ◌<◌, ◌≤◌, ◌^◌};
-ghost use Rattle.records.specs.Code.Shapes.{up_to, end_of, first_field, field, word_of, part_shape, task_shape, lock_shape, end_shape, shape_of, TabsSmall};
+ghost use Rattle.std.specs.Prelude.{◌≡◌, ◌<◌, ◌≤◌, ◌^◌, ◌&&◌, eqb};
+ghost use Rattle.text.specs.Bytes.{same};
+ghost use Rattle.records.specs.Code.Shapes.{up_to, end_of, first_field, field, word_of, shape_of, TabsSmall};
 ghost use Rattle.records.specs.Code.Cursor.{NextIs};
 
 use scan::Scanned;
@@ -37,6 +38,7 @@ pub struct Cursor {
 }
 
 // What stands at a cursor: a record with the cursor behind it, a line with a no to question 2, or nothing.
+// Kept: three cases that have no order among them; an `Option` of a `Result` would be no plainer.
 #[derive(Clone, Copy)]
 pub enum Next {
     Record(Shape, Cursor),
@@ -44,143 +46,74 @@ pub enum Next {
     Over,
 }
 
-#[derive(Clone, Copy)]
-pub enum Word {
-    PartWord,
-    TaskWord,
-    LockWord,
-    EndWord,
-    NoWord,
-}
-
 fn span_to(from: usize, to: usize) -> Span
     ensures { result ≡ up_to from to }
 {
-    if to < from {
-        return Span {
-            start: from,
-            len: 0,
-        };
-    }
     Span {
         start: from,
-        len: to - from,
+        len: to.saturating_sub(from),
     }
 }
 
-fn end_of(l: Scanned, k: usize) -> usize
+// Where field k ends.
+fn end_of(l: &Scanned, k: usize) -> usize
     requires { k < 5 }
-    ensures { result ≡ end_of l k }
+    ensures { result ≡ end_of l.now k }
 {
-    let t = l.tabs;
-    let n = t.count;
-    let p = t.place;
-    if k < n {
-        return p[k];
+    if k < l.tabs.count {
+        l.tabs.place[k]
+    } else {
+        l.end
     }
-    l.end
 }
 
-fn first_field(at: usize, l: Scanned) -> Span
-    ensures { result ≡ first_field at l }
+fn first_field(at: usize, l: &Scanned) -> Span
+    ensures { result ≡ first_field at l.now }
 {
     span_to(at, end_of(l, 0))
 }
 
 // Field k, from 1 to 4.
-fn field_of(l: Scanned, k: usize) -> Span
-    requires { (1 ≤ k) × (k < 5) × TabsSmall l }
-    ensures { result ≡ field l k }
+fn field_of(l: &Scanned, k: usize) -> Span
+    requires { (1 ≤ k) × (k < 5) × TabsSmall l.now }
+    ensures { result ≡ field l.now k }
 {
-    let t = l.tabs;
-    let p = t.place;
-    let before = k - 1;
-    let from = p[before] + 1;
-    span_to(from, end_of(l, k))
+    span_to(l.tabs.place[k - 1] + 1, end_of(l, k))
 }
 
-fn word_of(w: &[u8]) -> Word
-    ensures { result ≡ word_of w.now }
+// Whether a line whose word is w has this word, and this many tabs.
+fn has(w: &[u8], l: &Scanned, word: &[u8], tabs: usize) -> bool
+    ensures { result ≡ (same w.now word.now && eqb l.now.tabs.count tabs) }
 {
-    if fields::same_bytes(w, b"part") {
-        return Word::PartWord;
-    }
-    if fields::same_bytes(w, b"task") {
-        return Word::TaskWord;
-    }
-    if fields::same_bytes(w, b"lock") {
-        return Word::LockWord;
-    }
-    if fields::same_bytes(w, b"end") {
-        return Word::EndWord;
-    }
-    Word::NoWord
+    fields::same_bytes(w, word) && l.tabs.count == tabs
 }
 
-fn part_shape(l: Scanned) -> Shape
-    requires { TabsSmall l }
-    ensures { result ≡ part_shape l }
+// The record of a line whose word is w.
+fn shape_of(w: &[u8], l: &Scanned) -> Shape
+    requires { TabsSmall l.now }
+    ensures { result ≡ shape_of (word_of w.now) l.now }
 {
-    let t = l.tabs;
-    if t.count == 2 {
-        return Shape::Part {
+    if has(w, l, b"part", 2) {
+        Shape::Part {
             name: field_of(l, 1),
             period: field_of(l, 2),
-        };
-    }
-    Shape::Unknown
-}
-
-fn task_shape(l: Scanned) -> Shape
-    requires { TabsSmall l }
-    ensures { result ≡ task_shape l }
-{
-    let t = l.tabs;
-    if t.count == 4 {
-        return Shape::Task {
+        }
+    } else if has(w, l, b"task", 4) {
+        Shape::Task {
             name: field_of(l, 1),
             separation: field_of(l, 2),
             cost: field_of(l, 3),
             deadline: field_of(l, 4),
-        };
-    }
-    Shape::Unknown
-}
-
-fn lock_shape(l: Scanned) -> Shape
-    requires { TabsSmall l }
-    ensures { result ≡ lock_shape l }
-{
-    let t = l.tabs;
-    if t.count == 2 {
-        return Shape::Lock {
+        }
+    } else if has(w, l, b"lock", 2) {
+        Shape::Lock {
             name: field_of(l, 1),
             held: field_of(l, 2),
-        };
-    }
-    Shape::Unknown
-}
-
-fn end_shape(l: Scanned) -> Shape
-    ensures { result ≡ end_shape l }
-{
-    let t = l.tabs;
-    if t.count == 0 {
-        return Shape::End;
-    }
-    Shape::Unknown
-}
-
-fn shape_of(w: Word, l: Scanned) -> Shape
-    requires { TabsSmall l }
-    ensures { result ≡ shape_of w l }
-{
-    match w {
-        Word::PartWord => part_shape(l),
-        Word::TaskWord => task_shape(l),
-        Word::LockWord => lock_shape(l),
-        Word::EndWord => end_shape(l),
-        Word::NoWord => Shape::Unknown,
+        }
+    } else if has(w, l, b"end", 0) {
+        Shape::End
+    } else {
+        Shape::Unknown
     }
 }
 
@@ -197,23 +130,20 @@ impl Cursor {
         requires { self.line < 2 ^ 63 }
         ensures { NextIs s.now self result }
     {
-        let at = self.at;
-        let line = self.line;
-        if s.len() <= at {
+        if s.len() <= self.at {
             return Next::Over;
         }
-        let l = scan::line_at(s, at);
-        if l.good {
-            let w = word_of(stretch::within(s, first_field(at, l)));
-            let shape = shape_of(w, l);
-            return Next::Record(
-                shape,
-                Cursor {
-                    at: l.end + 1,
-                    line: line + 1,
-                },
-            );
+        let l = scan::line_at(s, self.at);
+        if !l.good {
+            return Next::Broken;
         }
-        Next::Broken
+        let word = stretch::within(s, first_field(self.at, &l));
+        Next::Record(
+            shape_of(word, &l),
+            Cursor {
+                at: l.end + 1,
+                line: self.line + 1,
+            },
+        )
     }
 }

@@ -71,53 +71,54 @@ pub enum Refusal {
     OutOfCycle(u64),
 }
 
+// Kept: the answers of the public operations hold it beside their numbers, which are 0 where it is a refusal (theorem `every_number` of planner).
 #[derive(Clone, Copy)]
 pub enum Outcome {
     Done,
     Refused(Refusal),
 }
 
-fn refusal_number(r: Refusal) -> u64
-    ensures { result ≡ refusal_number r }
-{
-    match r {
-        Refusal::FileTooLong => 1,
-        Refusal::BadLine(_) => 2,
-        Refusal::BadRecord(_) => 3,
-        Refusal::Misplaced(_) => 4,
-        Refusal::BadName(_) => 5,
-        Refusal::KnownName(_) => 6,
-        Refusal::BadNumber(_) => 7,
-        Refusal::BadOrder(_) => 8,
-        Refusal::TooMany(_) => 9,
-        Refusal::NoBudget(_) => 10,
-        Refusal::NoChoice => 11,
-        Refusal::BadHandSet(_) => 12,
-        Refusal::NoTime(_) => 13,
-        Refusal::NoRoom => 14,
-        Refusal::OutOfCycle(_) => 19,
+impl Refusal {
+    fn number(self) -> u64
+        ensures { result ≡ refusal_number self }
+    {
+        match self {
+            Refusal::FileTooLong => 1,
+            Refusal::BadLine(_) => 2,
+            Refusal::BadRecord(_) => 3,
+            Refusal::Misplaced(_) => 4,
+            Refusal::BadName(_) => 5,
+            Refusal::KnownName(_) => 6,
+            Refusal::BadNumber(_) => 7,
+            Refusal::BadOrder(_) => 8,
+            Refusal::TooMany(_) => 9,
+            Refusal::NoBudget(_) => 10,
+            Refusal::NoChoice => 11,
+            Refusal::BadHandSet(_) => 12,
+            Refusal::NoTime(_) => 13,
+            Refusal::NoRoom => 14,
+            Refusal::OutOfCycle(_) => 19,
+        }
     }
-}
 
-fn refusal_place(r: Refusal) -> u64
-    ensures { result ≡ refusal_place r }
-{
-    match r {
-        Refusal::FileTooLong => 0,
-        Refusal::BadLine(line) => line,
-        Refusal::BadRecord(line) => line,
-        Refusal::Misplaced(line) => line,
-        Refusal::BadName(line) => line,
-        Refusal::KnownName(line) => line,
-        Refusal::BadNumber(line) => line,
-        Refusal::BadOrder(line) => line,
-        Refusal::TooMany(line) => line,
-        Refusal::NoBudget(part) => part,
-        Refusal::NoChoice => 0,
-        Refusal::BadHandSet(place) => place,
-        Refusal::NoTime(row) => row,
-        Refusal::NoRoom => 0,
-        Refusal::OutOfCycle(part) => part,
+    fn place(self) -> u64
+        ensures { result ≡ refusal_place self }
+    {
+        match self {
+            Refusal::FileTooLong | Refusal::NoChoice | Refusal::NoRoom => 0,
+            Refusal::BadLine(place)
+            | Refusal::BadRecord(place)
+            | Refusal::Misplaced(place)
+            | Refusal::BadName(place)
+            | Refusal::KnownName(place)
+            | Refusal::BadNumber(place)
+            | Refusal::BadOrder(place)
+            | Refusal::TooMany(place)
+            | Refusal::NoBudget(place)
+            | Refusal::BadHandSet(place)
+            | Refusal::NoTime(place)
+            | Refusal::OutOfCycle(place) => place,
+        }
     }
 }
 
@@ -127,7 +128,7 @@ pub fn number(o: Outcome) -> u64
 {
     match o {
         Outcome::Done => 0,
-        Outcome::Refused(r) => refusal_number(r),
+        Outcome::Refused(r) => r.number(),
     }
 }
 
@@ -137,6 +138,6 @@ pub fn place(o: Outcome) -> u64
 {
     match o {
         Outcome::Done => 0,
-        Outcome::Refused(r) => refusal_place(r),
+        Outcome::Refused(r) => r.place(),
     }
 }

@@ -10,35 +10,24 @@ fn print_plan(rt: &impl Print, file: &[u8], out: &mut [u8]) -> io::Result<()> {
     let p = planner::plan(file, out);
     let number = planner::number(p.outcome);
     let place = planner::place(p.outcome);
-    let written = p.written;
-    println!(rt; "{number}\t{place}\t{written}")?;
+    println!(rt; "{number}\t{place}\t{}", p.written)?;
     rt.write_all(out)?;
     println!(rt)
 }
 
 fn print_rooms(rt: &impl Print, file: &[u8]) -> io::Result<()> {
-    let mut none = [b'.'; 0];
-    print_plan(rt, file, &mut none)?;
-    let mut short = [b'.'; 91];
-    print_plan(rt, file, &mut short)?;
-    let mut enough = [b'.'; 92];
-    print_plan(rt, file, &mut enough)?;
-    let mut more = [b'.'; 100];
-    print_plan(rt, file, &mut more)
+    print_plan(rt, file, &mut [b'.'; 0])?;
+    print_plan(rt, file, &mut [b'.'; 91])?;
+    print_plan(rt, file, &mut [b'.'; 92])?;
+    print_plan(rt, file, &mut [b'.'; 100])
 }
 
 fn print_readings(rt: &impl Print) -> io::Result<()> {
-    let one: &[u8] = b"part\tp\t10\ntask\tt\t10\t10\t10\nend\n";
-    let mut short = [b'.'; 34];
-    print_plan(rt, one, &mut short)?;
-    let mut enough = [b'.'; 35];
-    print_plan(rt, one, &mut enough)?;
-    let mut none = [b'.'; 0];
-    print_plan(
-        rt,
-        b"part\tp\t10\ntask\tt\t10\t6\t10\ntask\tu\t10\t6\t10\nend\n",
-        &mut none,
-    )
+    let one = b"part\tp\t10\ntask\tt\t10\t10\t10\nend\n";
+    print_plan(rt, one, &mut [b'.'; 34])?;
+    print_plan(rt, one, &mut [b'.'; 35])?;
+    let refused = b"part\tp\t10\ntask\tt\t10\t6\t10\ntask\tu\t10\t6\t10\nend\n";
+    print_plan(rt, refused, &mut [b'.'; 0])
 }
 
 fn main(rt: HostRuntime) -> io::Result<()> {

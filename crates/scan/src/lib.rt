@@ -5,6 +5,7 @@ ghost use Rattle.std.specs.Prelude.{◌≡◌, ◌&&◌, leb};
 ghost use Rattle.scan.specs.Positions.{line_at};
 
 // The first five tabs of a line: how many there are, and where they stand.
+// Kept: theorem `every_line_scanned` speaks of this count and of all five places, and memory is fixed.
 #[derive(Clone, Copy)]
 pub struct Tabs {
     pub count: usize,
@@ -12,6 +13,7 @@ pub struct Tabs {
 }
 
 // A line: whether question 2 has the answer yes and, if so, where its byte 10 stands, and its first five tabs.
+// Kept: theorem `every_line_scanned` says of a line with a no that its places are zeros, so they stand beside the answer.
 #[derive(Clone, Copy)]
 pub struct Scanned {
     pub good: bool,
@@ -23,10 +25,7 @@ pub struct Scanned {
 fn is_plain(b: u8) -> bool
     ensures { result ≡ leb 33 b && leb b 126 }
 {
-    if b < 33 {
-        return false;
-    }
-    b <= 126
+    33 <= b && b <= 126
 }
 
 // The line that begins at `at`. Each of its bytes is read once.
@@ -35,11 +34,9 @@ pub fn line_at(s: &[u8], at: usize) -> Scanned
 {
     let mut count = 0;
     let mut place = [0; 5];
-    let mut i = at;
-    while i < s.len() {
+    for i in at..s.len() {
         let b = s[i];
         if is_plain(b) {
-            i += 1;
             continue;
         }
         if b == 10 {
@@ -56,7 +53,6 @@ pub fn line_at(s: &[u8], at: usize) -> Scanned
             place[count] = i;
             count += 1;
         }
-        i += 1;
     }
     Scanned {
         good: false,

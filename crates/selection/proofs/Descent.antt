@@ -29,6 +29,7 @@ use Rattle.load.specs.Load.{load_of, passes_system}
 use Rattle.load.specs.Code.Rows.{no_row}
 use Rattle.load.proofs.Load.{load_of_ok, passes_finite}
 use Rattle.selection.specs.Selection.{choices, least_loaded}
+use Rattle.selection.specs.declared.Offers.{Offers}
 use Rattle.selection.specs.Code.Choosing.{offer_at, offers_of, FineOffers, bound_at, held_before}
 use Rattle.selection.proofs.Selection.{Picks, choices_iff, least_loaded_member, least_loaded_least}
 use Rattle.selection.proofs.Greatest.{After, member_some, least_loaded_greatest}
@@ -62,12 +63,12 @@ fewer_left counts places n j l h q =
     no_more k (yes e) = rw (e, here) (omega arith)
     no_more k (no e) = rw (get_or-set_other places j k (get_or places j 0 + 1) 0 e) (le_refl _)
 
-module _ (periods budgets holdings counts : List ℕ) (n : ℕ) where
+module _ (o : Offers) where
   abbrev offers : List (List Row)
-  offers = offers_of periods budgets holdings counts n
+  offers = offers_of o
 
   abbrev chosen : List ℕ → List Row
-  chosen places = chosen_at periods budgets holdings counts n places
+  chosen places = chosen_at o places
 
   pub record Recorded (best : Frac) (rec : List Row) : Type 0 where
     pub finite : Finite best
@@ -77,20 +78,20 @@ module _ (periods budgets holdings counts : List ℕ) (n : ℕ) where
 
   pub record Descending (places : List ℕ) (best : Frac) (rec : List Row) : Type 0 where
     pub room : length places ≡ 16
-    pub placed : (k : ℕ) → k < n → get_or places k 0 < get_or counts k 0
-    pub left : (c : List Row) → Picks offers c → load_of c ⊏ best → Left periods budgets holdings counts n places c
+    pub placed : (k : ℕ) → k < o.count → get_or places k 0 < get_or o.counts k 0
+    pub left : (c : List Row) → Picks offers c → load_of c ⊏ best → Left o places c
     pub recorded : (best ≡ no_bound) ⊎ Recorded best rec
 
   abbrev pub NoneBelow : Frac → Type 0
   NoneBelow best = (c : List Row) → Picks offers c → load_of c ⊏ best → ⊥
 
-  module _ (fine : FineOffers periods budgets holdings counts n) where
+  module _ (fine : FineOffers o) where
     -- it starts from the first rows
-    pub descent_starts : (places : List ℕ) (rec : List Row) → length places ≡ 16 → ((k : ℕ) → k < n → get_or places k 0 ≡ 0) → Descending places no_bound rec
+    pub descent_starts : (places : List ℕ) (rec : List Row) → length places ≡ 16 → ((k : ℕ) → k < o.count → get_or places k 0 ≡ 0) → Descending places no_bound rec
     descent_starts places rec l z = record {
       room = l;
       placed = λ k h. omega (arith, z k h, fine.counts_some k h);
-      left = λ c p h. picks_left periods budgets holdings counts n places z p;
+      left = λ c p h. picks_left o places z p;
       recorded = inl refl;
     }
 
@@ -103,42 +104,42 @@ module _ (periods budgets holdings counts : List ℕ) (n : ℕ) where
         left = λ c p k. d.left c p (⊏-trans (load_of_ok c) k l);
         recorded = inr (record {
           finite = smaller_finite l;
-          picks = left_picks periods budgets holdings counts n (chosen_left periods budgets holdings counts n places d.placed);
+          picks = left_picks o (chosen_left o places d.placed);
           load = h;
-          after = λ c p k. left_after periods budgets holdings counts n fine places (d.left c p (⊑-⊏-trans (load_of_ok c) k l));
+          after = λ c p k. left_after o fine places (d.left c p (⊑-⊏-trans (load_of_ok c) k l));
         });
       }
 
       -- the row at the place s has a bound of at least `best`, x is held below it, and no part before j holds for x
-      module _ (s x j : ℕ) (within : s < n) (reaches : best ⊑ bound_at (chosen places) s) (held : x ≡ held_before (chosen places) s)
+      module _ (s x j : ℕ) (within : s < o.count) (reaches : best ⊑ bound_at (chosen places) s) (held : x ≡ held_before (chosen places) s)
           (none : (k : ℕ) → k < j → (get_or (chosen places) k no_row).holding ≡ x → ⊥) where
         lower : (c : List Row) → Picks offers c → load_of c ⊏ best → (j < s) × ((get_or c j no_row).holding < x)
         lower c p h =
-            lower_holds_less (left_after periods budgets holdings counts n fine places (d.left c p h)) s (omega (arith, chosen_length periods budgets holdings counts n places)) x j held none reaches h
+            lower_holds_less (left_after o fine places (d.left c p h)) s (omega (arith, chosen_length o places)) x j held none reaches h
 
         -- a choice of a smaller load has a later row of the part j, if that part holds for x
-        module _ (holds : j < n → (get_or (chosen places) j no_row).holding ≡ x) where
-          moved : (c : List Row) → Picks offers c → load_of c ⊏ best → (j < n) × Later periods budgets holdings counts n j (suc (get_or places j 0)) (get_or c j no_row)
+        module _ (holds : j < o.count → (get_or (chosen places) j no_row).holding ≡ x) where
+          moved : (c : List Row) → Picks offers c → load_of c ⊏ best → (j < o.count) × Later o j (suc (get_or places j 0)) (get_or c j no_row)
           moved c p h =
               let w = lower c p h in
-              let q : j < n = omega (arith, w.0) in
+              let q : j < o.count = omega (arith, w.0) in
               let l = (d.left c p h).each j q in
-              let here : (offer_at periods budgets holdings j (get_or places j 0)).holding ≡ x = rw (chosen_get periods budgets holdings counts n places j q) at (holds q) in
-              let there : (offer_at periods budgets holdings j l.place).holding < x = rw l.is at w.1 in (
+              let here : (offer_at o j (get_or places j 0)).holding ≡ x = rw (chosen_get o places j q) at (holds q) in
+              let there : (offer_at o j l.place).holding < x = rw l.is at w.1 in (
                 q,
                 record {
                   place = l.place;
-                  from = holds_later periods budgets holdings counts n fine j (get_or places j 0) l.place q (d.placed j q) l.within (omega arith);
+                  from = holds_later o fine j (get_or places j 0) l.place q (d.placed j q) l.within (omega arith);
                   within = l.within;
                   is = l.is;
                 },
               )
 
           -- it stops where no part holds for x, or the first that does has no next row
-          pub descent_stops : (j < n → get_or counts j 0 ≤ get_or places j 0 + 1) → NoneBelow best
+          pub descent_stops : (j < o.count → get_or o.counts j 0 ≤ get_or places j 0 + 1) → NoneBelow best
           descent_stops last c p h = let m = moved c p h in omega (arith, last m.0, m.1.from, m.1.within)
 
-          pub descent_moves : j < n → get_or places j 0 + 1 < get_or counts j 0 → Descending (set places j (get_or places j 0 + 1)) best rec
+          pub descent_moves : j < o.count → get_or places j 0 + 1 < get_or o.counts j 0 → Descending (set places j (get_or places j 0 + 1)) best rec
           descent_moves q l = record {
             room = length-set places j _ ∙ d.room;
             placed = λ k h. next_placed k h (ℕ_discrete k j);
@@ -149,12 +150,12 @@ module _ (periods budgets holdings counts : List ℕ) (n : ℕ) where
               here : (v : ℕ) → get_or (set places j v) j 0 ≡ v
               here v = get_or-set_same places j v 0 (omega (arith, d.room, fine.few))
 
-              next_placed : (k : ℕ) → k < n → Dec (k ≡ j) → get_or (set places j (get_or places j 0 + 1)) k 0 < get_or counts k 0
+              next_placed : (k : ℕ) → k < o.count → Dec (k ≡ j) → get_or (set places j (get_or places j 0 + 1)) k 0 < get_or o.counts k 0
               next_placed k h (yes e) = rw (e, here (get_or places j 0 + 1)) l
               next_placed k h (no e) = rw (get_or-set_other places j k (get_or places j 0 + 1) 0 e) (d.placed k h)
 
-              next_left : (c : List Row) → Picks offers c → load_of c ⊏ best → (k : ℕ) → k < n → Dec (k ≡ j)
-                  → Later periods budgets holdings counts n k (get_or (set places j (get_or places j 0 + 1)) k 0) (get_or c k no_row)
+              next_left : (c : List Row) → Picks offers c → load_of c ⊏ best → (k : ℕ) → k < o.count → Dec (k ≡ j)
+                  → Later o k (get_or (set places j (get_or places j 0 + 1)) k 0) (get_or c k no_row)
               next_left c p h k u (yes e) =
                   let m = (moved c p h).1 in
                   rw (e, here (get_or places j 0 + 1)) (record { place = m.place; from = omega (arith, m.from); within = m.within; is = m.is })
@@ -172,10 +173,10 @@ module _ (periods budgets holdings counts : List ℕ) (n : ℕ) where
             let rec-in = (choices_iff offers rec).1 r.picks in
             let p : Picks offers m = (choices_iff offers m).0 (least_loaded_member cs (member_some rec-in)) in
             let a = r.after m p (⊑_trans (load_of_ok rec) (least_loaded_least cs rec rec-in) r.load) in
-            let b = least_loaded_greatest (offers_sorted periods budgets holdings counts n fine) rec rec-in (⊑_trans (finite_ok r.finite) r.load (no_smaller m p)) in
-            let u = picks_left periods budgets holdings counts n [] (λ k h. refl) r.picks in
-            let v = picks_left periods budgets holdings counts n [] (λ k h. refl) p in
-            left_same periods budgets holdings counts n fine u v
+            let b = least_loaded_greatest (offers_sorted o fine) rec rec-in (⊑_trans (finite_ok r.finite) r.load (no_smaller m p)) in
+            let u = picks_left o [] (λ k h. refl) r.picks in
+            let v = picks_left o [] (λ k h. refl) p in
+            left_same o fine u v
             (λ k h. omega (arith, (each_get no_row no_row k a (omega (arith, u.long))).holds, each_get no_row no_row k b (omega (arith, v.long))))
 
         recorded_passes : Recorded best rec → some passes_system (choices offers) ≡ true

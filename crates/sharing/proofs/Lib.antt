@@ -1,4 +1,2 @@
-pub mod Counting
-pub mod Marks
-pub mod Gathered
+pub mod Filled
 pub mod Named

@@ -1,83 +1,61 @@
-// Which locks of a file are shared: named in more than one part. The lock names of all parts are compared as numbers, which stand in one array: those of the part at
-// the place k from LOCK_LIMIT × k on, 0 in the places that are left.
+// Which locks of a file are shared: named in more than one part. The lock names are compared as numbers: each part has a row of them.
 #![tactic(auto)]
 
-ghost use Rattle.std.specs.Prelude.{◌≡◌, ◌≤◌, ◌<◌, length};
+ghost use Rattle.std.specs.Prelude.{◌≡◌, ◌≤◌, ◌<◌, length, set};
 ghost use Rattle.refusal.specs.Limits.{part_limit, lock_limit};
-ghost use Rattle.refusal.specs.Code.Limits.{ceiling_places};
-ghost use Rattle.sharing.specs.Code.Sharing.{CodesPut, names_it, code_shared, marks_at};
+ghost use Rattle.sharing.specs.Code.Sharing.{codes_of, names_it, code_shared, marks_at};
 
 use plan_file::Names;
-use refusal::{CEILING_PLACES, LOCK_LIMIT};
+use refusal::{LOCK_LIMIT, PART_LIMIT};
+
+// The numbers of a part's lock names.
+fn codes_of(s: &[u8], names: &Names) -> [Option<u64>; LOCK_LIMIT]
+    requires { names.now.count ≤ lock_limit }
+    ensures { result ≡ codes_of s.now names.now }
+{
+    let mut codes = [None; LOCK_LIMIT];
+    for (j, name) in names.span[..names.count].iter().enumerate() {
+        codes[j] = codes::name_code(stretch::bytes(s, *name));
+    }
+    codes
+}
 
 // Stores the numbers of the lock names of the part at the place k.
-pub fn put_codes(s: &[u8], names: Names, k: usize, codes: &mut [u64])
-    requires { (k < part_limit) × (names.count ≤ lock_limit) × (length codes.old ≡ ceiling_places) }
-    ensures { CodesPut s.now names k codes.old codes.new }
+pub fn put_codes(
+    s: &[u8],
+    names: &Names,
+    k: usize,
+    codes: &mut [[Option<u64>; LOCK_LIMIT]; PART_LIMIT],
+)
+    requires { (k < part_limit) × (names.now.count ≤ lock_limit) }
+    ensures { codes.new ≡ set codes.old k (codes_of s.now names.now) }
 {
-    let n = names.count;
-    let span = names.span;
-    let first = LOCK_LIMIT * k;
-    let mut j = 0;
-    while j < n {
-        let name = span[j];
-        codes[first + j] = codes::name_code(stretch::bytes(s, name));
-        j += 1;
-    }
+    codes[k] = codes_of(s, names);
 }
 
-// Whether the part at the place k names the lock with this number.
-fn names_it(codes: &[u64; CEILING_PLACES], k: usize, code: u64) -> bool
-    requires { k < part_limit }
-    ensures { result ≡ names_it codes.now code k }
+// Whether the part with these numbers names the lock with this one.
+fn names_it(locks: &[Option<u64>; LOCK_LIMIT], code: Option<u64>) -> bool
+    ensures { result ≡ names_it code locks.now }
 {
-    let first = LOCK_LIMIT * k;
-    let mut j = 0;
-    while j < LOCK_LIMIT {
-        if codes[first + j] == code {
-            return true;
-        }
-        j += 1;
-    }
-    false
+    locks.contains(&code)
 }
 
-// Whether at least two of the first n parts name it; 0 is the number of no lock.
-fn is_shared(codes: &[u64; CEILING_PLACES], n: usize, code: u64) -> bool
-    requires { n ≤ part_limit }
-    ensures { result ≡ code_shared codes.now n code }
+// Whether there is a lock with this number and at least two parts name it.
+fn is_shared(parts: &[[Option<u64>; LOCK_LIMIT]], code: Option<u64>) -> bool
+    ensures { result ≡ code_shared parts.now code }
 {
-    if code == 0 {
-        return false;
-    }
-    let mut found: usize = 0;
-    let mut i = 0;
-    while i < n {
-        if names_it(codes, i, code) {
-            found += 1;
-            if found == 2 {
-                return true;
-            }
-            i += 1;
-        } else {
-            i += 1;
-        }
-    }
-    false
+    let mut namers = parts.iter().filter(|locks| names_it(locks, code));
+    code.is_some() && namers.nth(1).is_some()
 }
 
 // For each lock of the part at the place k, whether it is shared.
-pub fn marks_at(codes: &[u64; CEILING_PLACES], n: usize, k: usize) -> [bool; 8]
-    requires { (n ≤ part_limit) × (k < part_limit) }
-    ensures { result ≡ marks_at codes.now n k }
+pub fn marks_at(parts: &[[Option<u64>; LOCK_LIMIT]], k: usize) -> [bool; LOCK_LIMIT]
+    requires { k < length parts.now }
+    ensures { result ≡ marks_at parts.now k }
 {
-    let first = LOCK_LIMIT * k;
-    let mut marks = [false; 8];
-    let mut j = 0;
-    while j < LOCK_LIMIT {
-        let code = codes[first + j];
-        marks[j] = is_shared(codes, n, code);
-        j += 1;
+    let mut marks = [false; LOCK_LIMIT];
+    for (j, code) in parts[k].iter().enumerate() {
+        marks[j] = is_shared(parts, *code);
     }
     marks
 }

@@ -2,8 +2,8 @@
 use Rattle.std.proofs.Common.{◌≡◌, ℕ, ◌+◌, ◌-◌, ◌≤◌, List, ◌++◌, arith, length, take, slice_range, sym, ap, ◌∙◌, subst, le_refl, drop_at, length-take-le}
 use Rattle.std.proofs.lemmas.Slice.{take-put_mid_below}
 use Rattle.std.specs.Prelude.{Option}
-use Rattle.std.specs.Io.KnownBytes.{Consumes, Keeps}
-use Rattle.std.proofs.KnownBytes.{Consumes-trans, Consumes-kept}
+use Rattle.std.specs.Io.KnownBytes.{Consumes}
+use Rattle.std.proofs.KnownBytes.{Consumes-trans}
 use borrow.Rule.Slice.PartMut.{put_mid, post_of}
 use lib.Seq.{take-add, take-append-le}
 
@@ -25,8 +25,3 @@ Consumes-filled first before after done n buf got within fits had gives =
     let part = slice_range-put_mid done room n buf got within fits in
     let joined = take_split done (done + n) buf (put_mid done room buf got) (omega arith) (take-put_mid_below _ _ _ _ _ (le_refl _) within) in
     subst (Consumes _ _) (ap (λ l. take done buf ++ l) (sym part) ∙ joined) (Consumes-trans _ _ _ _ _ had gives)
-
--- a read that failed
-pub Consumes-unfilled : (first before after : Option (List ℕ)) (done : ℕ) (buf got : List ℕ) → done ≤ length buf → Consumes first before (take done buf) → Keeps before after → Consumes first after (take done (put_mid done (length buf - done) buf got))
-Consumes-unfilled first before after done buf got within had kept =
-    subst (Consumes _ _) (sym (take-put_mid_below _ _ _ _ _ (le_refl _) within)) (Consumes-kept _ _ _ _ had kept)

@@ -1,11 +1,17 @@
-// What the programs need of a reader and of an error beside what std has: filling a lent buffer, and the words for why a call failed.
+// What the programs need beside what std has: filling a lent buffer from a reader, lending each file that the arguments name, and the words for why a call failed.
 #![tactic(auto)]
 
-ghost use Rattle.std.specs.Prelude.{◌≤◌, length, take};
+ghost use Rattle.std.specs.Prelude.{ℕ, List, ◌+◌, ◌≤◌, length, take, OnOk};
+ghost use Rattle.std.specs.List.{FoldsTo};
+ghost use denote.Ref.{Bor};
 ghost use Rattle.std.specs.Io.KnownBytes.{Consumes};
 
+use refusal::FILE_LIMIT;
+use std::fmt::InlineText;
+use std::fs::File;
 use std::io::Read;
-use std::{fmt, io};
+use std::rt::Runtime;
+use std::{env, fmt, io};
 
 // Reads until the buffer is full, the input ends or a read fails, and answers how many bytes it put at the start of the buffer: the next ones of the input.
 pub fn read_full<R: Read>(input: &mut R, buf: &mut [u8]) -> usize
@@ -13,6 +19,7 @@ pub fn read_full<R: Read>(input: &mut R, buf: &mut [u8]) -> usize
     ensures bytes { Consumes (R.remaining input.old) (R.remaining input.new) (take result buf.new) }
 {
     let mut done = 0;
+    // Kept: a turn goes as far as a read brought bytes, so no range counts the turns.
     while done < buf.len() {
         match input.read(&mut buf[done..]) {
             Ok(0) | Err(_) => return done,
@@ -22,38 +29,41 @@ pub fn read_full<R: Read>(input: &mut R, buf: &mut [u8]) -> usize
     done
 }
 
+// Opens in turn each file that the arguments name, and lends `visit` its name and its first bytes: as many as a file may have, and one more. Of one that cannot be
+// opened standard error says why.
+pub fn each_file<F>(rt: &impl Runtime, visit: &mut F) -> io::Result<()>
+where
+    F: FnMut(&str, &[u8]) -> io::Result<()>,
+    requires { (state : F) (path : _) (file : _) → length file.now ≤ FILE_LIMIT + 1 → F.pre state path file }
+    ensures { OnOk result ((lent : List (Bor (List ℕ) × Bor (List ℕ)))
+        × FoldsTo (λ p x q. F.step p x.0 x.1 (Ok tt) q) visit.old lent visit.new) }
+{
+    let mut room = [0u8; FILE_LIMIT + 1];
+    for path in env::args(rt)?.skip(1) {
+        let path = path.as_str();
+        match File::open(rt, path) {
+            Ok(mut file) => {
+                let n = read_full(&mut file, &mut room);
+                visit(path, &room[..n])?;
+            }
+            Err(e) => eprintln!(rt; "{path}: {}", Reason(&e))?,
+        }
+    }
+    Ok(())
+}
+
 // Why a call failed, in the system's words alone: `{}` of an error has its number too, as in `No such file or directory (os error 2)`.
 #[derive(Clone, Copy)]
 pub struct Reason<'a>(pub &'a io::Error);
 
 impl fmt::Display for Reason<'_> {
     fn fmt<W: fmt::Write>(&self, f: &mut fmt::Formatter<W>) -> fmt::Result {
-        let mut words = fmt::Formatter::new(Words {
-            to: f,
-            is_done: false,
-        });
-        words.write(self.0)
-    }
-}
-
-// Passes on what is written before an error's number.
-#[derive(Drop)]
-struct Words<'a, W> {
-    to: &'a mut fmt::Formatter<W>,
-    is_done: bool,
-}
-
-impl<W: fmt::Write> fmt::Write for Words<'_, W> {
-    fn write_str(&mut self, s: &str) -> fmt::Result {
-        if self.is_done {
-            return Ok(());
-        }
-        match s.split_once(" (os error ") {
-            Some((words, _)) => {
-                self.is_done = true;
-                self.to.write_str(words)
-            }
-            None => self.to.write_str(s),
-        }
+        // std writes an error in at most 256 bytes of words and 23 with its number.
+        let text = InlineText::<320>::of(self.0);
+        let text = text.as_str();
+        let words = text
+            .split_once(" (os error ")
+            .map_or(text, |(words, _)| words);
+        f.write_str(words)
     }
 }

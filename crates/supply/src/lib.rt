@@ -15,10 +15,10 @@ pub fn supply(p: u64, q: u64, t: u64) -> u64
     if t <= gap {
         return 0;
     }
-    let k = least::ceil_div(t - gap, p);
+    let k = (t - gap).div_ceil(p);
     let whole = (k - 1) * q;
     let from = whole + (k + 1) * gap;
-    if t <= from { whole } else { whole + (t - from) }
+    whole + t.saturating_sub(from)
 }
 
 // The least number of ticks in which a budget of q in every p ticks gives x ticks.
@@ -26,5 +26,5 @@ pub fn reach_at(p: u64, q: u64, x: u64) -> u64
     requires { (1 ≤ q) × (q ≤ p) × (p ≤ number_limit) × (1 ≤ x) × (x ≤ number_limit) }
     ensures { ReachIs p q x result }
 {
-    x + (least::ceil_div(x, q) + 1) * (p - q)
+    x + (x.div_ceil(q) + 1) * (p - q)
 }

@@ -4,7 +4,7 @@
 use Prim.Native.Nat.{ℕ, suc, ◌+◌, ◌-◌, ◌*◌, ◌/◌, ◌%◌, max, ◌≤◌, ◌<◌}
 use native.Mathlib.Omega.{arith}
 use mathlib.Core.Path.{◌≡◌, refl, sym, ap, ap₂, ◌∙◌}
-use mathlib.Core.List.{List, map}
+use mathlib.Core.List.{map}
 use lib.ListN.{take, get_or, replicate, length-replicate, get_or-replicate}
 use Rattle.least.specs.Lists.{greatest}
 use Rattle.least.proofs.Lists.{nth_get}
@@ -13,7 +13,6 @@ use Rattle.least.proofs.Fill.{Filled}
 use Rattle.task_set.specs.declared.Part.{Part}
 use Rattle.task_set.specs.Tasks.{held_for}
 use Rattle.task_set.specs.Code.Fine.{blank_task}
-use Rattle.task_set.specs.Code.ByLock.{LongestBelow}
 
 -- the longest use of the lock at the place j by a task below the place i
 abbrev longest : Part → ℕ → ℕ → ℕ
@@ -34,19 +33,12 @@ module _ (p : Part) where
   unfolding greatest
   below_start = record { room = length-replicate {A = ℕ} 128 0; each = λ k h. let e : k / 8 ≡ 0 = omega arith in get_or-replicate 128 k 0 0 (omega arith) ∙ rw e refl }
 
-  -- k is the first place of a row
-  pub below_next : (k j : ℕ) → 8 ≤ k → k % 8 ≡ 0 → j < 8 → longest_at p (k + j) ≡ max (longest_at p (k + j - 8)) (get_or (get_or p.tasks (k / 8 - 1) blank_task).uses j 0)
-  below_next k j h r l =
-      let i : (k + j) / 8 ≡ suc (k / 8 - 1) = omega arith in
-      let j-is : (k + j) % 8 ≡ j = omega arith in
-      let i-below : (k + j - 8) / 8 ≡ k / 8 - 1 = omega arith in
-      let j-below : (k + j - 8) % 8 ≡ j = omega arith in
-      ap₂ (longest p) i j-is
-      ∙ longest_next (k / 8 - 1) j
-      ∙ ap (λ (x : ℕ). max x (get_or (get_or p.tasks (k / 8 - 1) blank_task).uses j 0)) (sym (ap₂ (longest p) i-below j-below))
-
-  pub below_end : (table : List ℕ) (k : ℕ) → 128 ≤ k → Filled 0 (longest_at p) 128 table k → LongestBelow p table
-  below_end table k h f i j a b =
-      let q : (8 * i + j) / 8 ≡ i = omega arith in
-      let r : (8 * i + j) % 8 ≡ j = omega arith in
-      f.each (8 * i + j) (omega arith) ∙ ap₂ (longest p) q r
+  pub below_next : (i j : ℕ) → 1 ≤ i → j < 8 → longest_at p (8 * i + j) ≡ max (longest_at p (8 * i + j - 8)) (get_or (get_or p.tasks (i - 1) blank_task).uses j 0)
+  below_next i j h l =
+      let row : (8 * i + j) / 8 ≡ suc (i - 1) = omega arith in
+      let j-is : (8 * i + j) % 8 ≡ j = omega arith in
+      let row-below : (8 * i + j - 8) / 8 ≡ i - 1 = omega arith in
+      let j-below : (8 * i + j - 8) % 8 ≡ j = omega arith in
+      ap₂ (longest p) row j-is
+      ∙ longest_next (i - 1) j
+      ∙ ap (λ (x : ℕ). max x (get_or (get_or p.tasks (i - 1) blank_task).uses j 0)) (sym (ap₂ (longest p) row-below j-below))

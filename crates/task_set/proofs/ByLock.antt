@@ -1,22 +1,21 @@
 -- The locks of a part: what one more task adds to a lock, and how large a lock's numbers are.
+--   due l ts            == the smallest deadline of the users of lock l, and of the limit of numbers
 --   Counted l ts k lock == the tasks before the place k are counted in the lock: with the tasks from k on it makes up lock l
 -- Assumes nothing.
 use Prim.Native.Nat.{ℕ, suc, ◌+◌, min, max, ◌≤◌, ◌<◌}
 use native.Mathlib.Numerals.{add-one}
 use native.Mathlib.Omega.{arith}
 use native.Mathlib.Decide.{dec_le}
-use mathlib.Core.Path.{◌≡◌, refl, sym, ap, ◌∙◌}
-use mathlib.Core.Bool.{true, cond}
+use mathlib.Core.Path.{◌≡◌, refl, ap, ◌∙◌}
+use mathlib.Core.Bool.{true}
 use mathlib.Core.Logic.{⊎_elim}
 use mathlib.Core.List.Memᴰ
 use mathlib.Core.List.{List, [], ◌∷◌, map, Memᴰ}
-use lib.Dec.{leb}
 use lib.ListN.{drop, get_or}
 use borrow.Author.Tests.{le-leb, lt-leb}
 use Rattle.least.specs.Lists.{greatest, smallest, those, numbers_from}
 use Rattle.least.proofs.Lists.{smallest_member, those_pass, those_fail, those_iff, map_iff, nth_get}
 use Rattle.least.proofs.Greatest.{greatest_le, greatest_reached}
-use Rattle.least.proofs.Members.{drop_member}
 use Rattle.least.proofs.Numbers.{numbers_pass, numbers_fail, numbers_most}
 use Rattle.refusal.specs.Limits.{number_limit}
 use Rattle.task_set.specs.declared.Task.{Task}
@@ -25,41 +24,19 @@ use Rattle.task_set.specs.declared.Lock.{Lock}
 use Rattle.task_set.specs.Tasks.{held_for, uses, lowest_ceiling, greatest_held, smallest_deadline}
 use Rattle.task_set.specs.Code.Tasks.{with_locks, tasks_of}
 use Rattle.task_set.specs.Code.Fine.{blank_task, FinePart}
-use Rattle.task_set.specs.Code.ByLock.{lock_of, earlier, with_user}
-use Rattle.task_set.proofs.Places.{tasks_at, tasks_length, tasks_place, held_at}
+use Rattle.task_set.specs.Code.ByLock.{lock_of, with_user}
+use Rattle.task_set.proofs.Places.{tasks_at, tasks_end, tasks_length, tasks_place, held_at}
 
--- the smaller of two deadlines, where 0 stands for none
-module _ (a b : ℕ) where
-  pub earlier_none : a < 1 → earlier a b ≡ b
-  unfolding earlier
-  earlier_none h = rw (lt-leb 1 a h) refl
+-- the smallest of these deadlines, and of the limit of numbers
+unfoldable pub least_due : List ℕ → ℕ
+least_due [] = number_limit
+least_due (x ∷ xs) = min x (least_due xs)
 
-  pub earlier_only : b < 1 → earlier a b ≡ a
-  unfolding earlier
-  earlier_only h = go (dec_le 1 a)
-    where
-      go : Dec (1 ≤ a) → cond (leb 1 a) (cond (leb 1 b) (min a b) a) b ≡ a
-      go (yes k) = rw (le-leb 1 a k, lt-leb 1 b h) refl
-      go (no k) = rw (lt-leb 1 a (omega arith)) (omega arith)
-
-  pub earlier_both : 1 ≤ a → 1 ≤ b → earlier a b ≡ min a b
-  unfolding earlier
-  earlier_both h k = rw (le-leb 1 a h, le-leb 1 b k) refl
-
--- b is a deadline
-earlier-earlier : (a b c : ℕ) → 1 ≤ b → earlier (earlier a b) c ≡ earlier a (earlier b c)
-earlier-earlier a b c h = go (dec_le 1 a) (dec_le 1 c)
-  where
-    go : Dec (1 ≤ a) → Dec (1 ≤ c) → earlier (earlier a b) c ≡ earlier a (earlier b c)
-    go (no k) l = rw (earlier_none a b (omega arith), earlier_none a (earlier b c) (omega arith)) refl
-    go (yes k) (no l) = rw (earlier_only b c (omega arith), earlier_only (earlier a b) c (omega arith)) refl
-    go (yes k) (yes l) =
-        rw (earlier_both a b k h, earlier_both b c h l, earlier_both (min a b) c (omega arith) l, earlier_both a (min b c) k (omega arith)) (omega arith)
-
-smallest_earlier : (x : ℕ) (xs : List ℕ) → 1 ≤ x → ((y : ℕ) → Memᴰ y xs → 1 ≤ y) → smallest (x ∷ xs) ≡ earlier x (smallest xs)
-unfolding smallest
-smallest_earlier x [] h each = sym (earlier_only x 0 (omega arith))
-smallest_earlier x (y ∷ ys) h each = sym (earlier_both x (smallest (y ∷ ys)) h (each _ (smallest_member (y ∷ ys) (Memᴰ.head refl))))
+least_smallest : (xs : List ℕ) (y : ℕ) → Memᴰ y xs → ((x : ℕ) → Memᴰ x xs → x ≤ number_limit) → least_due xs ≡ smallest xs
+unfolding smallest least_due
+least_smallest [] y m most = elim m [ ]
+least_smallest (x ∷ []) y m most = omega (arith, most x (Memᴰ.head refl))
+least_smallest (x ∷ z ∷ zs) y m most = ap (min x) (least_smallest (z ∷ zs) z (Memᴰ.head refl) (λ u k. most u (Memᴰ.tail k)))
 
 -- one more task
 module _ (lock : Lock) (number c deadline : ℕ) where
@@ -67,16 +44,15 @@ module _ (lock : Lock) (number c deadline : ℕ) where
   unfolding with_user
   with_none h = rw (lt-leb 1 c h) refl
 
-  pub with_some : 1 ≤ c → with_user lock number c deadline ≡ record { lowest = number; longest = max lock.longest c; deadline = earlier lock.deadline deadline }
+  pub with_some : 1 ≤ c → with_user lock number c deadline ≡ record { lowest = number; longest = max lock.longest c; deadline = min lock.deadline deadline }
   unfolding with_user
   with_some h = rw (le-leb 1 c h) refl
 
 pub same_lock : (a b : Lock) → a.lowest ≡ b.lowest → a.longest ≡ b.longest → a.deadline ≡ b.deadline → a ≡ b
 same_lock a b x y z = λ i. record { lowest = x i; longest = y i; deadline = z i }
 
--- every task has a deadline
-abbrev Due : List Task → Type 0
-Due ts = (t : Task) → Memᴰ t ts → 1 ≤ t.deadline
+abbrev pub due : ℕ → List Task → ℕ
+due l ts = least_due (map (λ k. k.deadline) (those (uses l) ts))
 
 -- the numbers of lock l over one task more
 module _ (l : ℕ) (t : Task) (ts : List Task) where
@@ -91,39 +67,35 @@ module _ (l : ℕ) (t : Task) (ts : List Task) where
   unfolding greatest
   lowest_used k h = rw (numbers_pass (uses l) k t ts (le-leb 1 (held_for l t) h)) refl
 
-  deadline_unused : held_for l t < 1 → smallest_deadline l (t ∷ ts) ≡ smallest_deadline l ts
-  unfolding smallest_deadline
-  deadline_unused h = rw (those_fail (uses l) t ts (lt-leb 1 (held_for l t) h)) refl
+  due_unused : held_for l t < 1 → due l (t ∷ ts) ≡ due l ts
+  due_unused h = rw (those_fail (uses l) t ts (lt-leb 1 (held_for l t) h)) refl
 
-  deadline_used : Due (t ∷ ts) → 1 ≤ held_for l t → smallest_deadline l (t ∷ ts) ≡ earlier t.deadline (smallest_deadline l ts)
-  unfolding smallest_deadline
-  deadline_used due h =
-      rw (those_pass (uses l) t ts (le-leb 1 (held_for l t) h)) (smallest_earlier t.deadline _ (due t (Memᴰ.head refl)) each)
-    where
-      each : (y : ℕ) → Memᴰ y (map (λ k. k.deadline) (those (uses l) ts)) → 1 ≤ y
-      each y m =
-          let h = (map_iff (λ k. k.deadline) y (those (uses l) ts)).0 m in
-          omega (arith, h.2, due h.0 (Memᴰ.tail ((those_iff (uses l) h.0 ts).0 h.1).0))
+  due_used : 1 ≤ held_for l t → due l (t ∷ ts) ≡ min t.deadline (due l ts)
+  unfolding least_due
+  due_used h = rw (those_pass (uses l) t ts (le-leb 1 (held_for l t) h)) refl
 
 pub record Counted (l : ℕ) (ts : List Task) (k : ℕ) (lock : Lock) : Type 0 where
   pub passed : lock.lowest ≤ k
   pub lowest : max lock.lowest (greatest (numbers_from (suc k) (uses l) (drop k ts))) ≡ lowest_ceiling l ts
   pub longest : max lock.longest (greatest_held l (drop k ts)) ≡ greatest_held l ts
-  pub deadline : earlier lock.deadline (smallest_deadline l (drop k ts)) ≡ smallest_deadline l ts
+  pub within : lock.deadline ≤ number_limit
+  pub deadline : min lock.deadline (due l (drop k ts)) ≡ due l ts
 
 module _ (l : ℕ) (ts : List Task) where
-  pub counted_start : Counted l ts 0 (record { lowest = 0; longest = 0; deadline = 0 })
-  unfolding lowest_ceiling
-  counted_start = record { passed = omega arith; lowest = omega arith; longest = omega arith; deadline = earlier_none 0 _ (omega arith) }
+  least_most : (xs : List ℕ) → least_due xs ≤ number_limit
+  unfolding least_due
+  least_most [] = omega arith
+  least_most (x ∷ xs) = omega (arith, least_most xs)
 
-  pub counted_step : (k : ℕ) (lock : Lock) (t : Task) → Due ts → drop k ts ≡ t ∷ drop (suc k) ts → Counted l ts k lock → Counted l ts (k + 1) (with_user lock (k + 1) (held_for l t) t.deadline)
-  counted_step k lock t due e done = rw add-one (go (dec_le 1 (held_for l t)))
+  pub counted_start : Counted l ts 0 (record { lowest = 0; longest = 0; deadline = number_limit })
+  unfolding lowest_ceiling
+  counted_start = record { passed = omega arith; lowest = omega arith; longest = omega arith; within = omega arith; deadline = omega (arith, least_most (map (λ k. k.deadline) (those (uses l) ts))) }
+
+  pub counted_step : (k : ℕ) (lock : Lock) (t : Task) → drop k ts ≡ t ∷ drop (suc k) ts → Counted l ts k lock → Counted l ts (k + 1) (with_user lock (k + 1) (held_for l t) t.deadline)
+  counted_step k lock t e done = rw add-one (go (dec_le 1 (held_for l t)))
     where
       rest : List Task
       rest = drop (suc k) ts
-
-      due_here : Due (t ∷ rest)
-      due_here u m = due u (drop_member k ts (rw e m))
 
       longer : greatest_held l (drop k ts) ≡ max (held_for l t) (greatest_held l rest)
       longer = ap (greatest_held l) e ∙ longest_next l t rest
@@ -133,10 +105,8 @@ module _ (l : ℕ) (ts : List Task) where
         passed = omega arith;
         lowest = omega (arith, ap (λ us. greatest (numbers_from (suc k) (uses l) us)) e, lowest_used l t rest (suc k) h, done.lowest, done.passed);
         longest = omega (arith, longer, done.longest);
-        deadline =
-            earlier-earlier lock.deadline t.deadline (smallest_deadline l rest) (due_here t (Memᴰ.head refl))
-            ∙ ap (earlier lock.deadline) (sym (deadline_used l t rest due_here h) ∙ ap (smallest_deadline l) (sym e))
-            ∙ done.deadline;
+        within = omega (arith, done.within);
+        deadline = omega (arith, ap (due l) e, due_used l t rest h, done.deadline);
       })
       go (no h) =
           let unused : held_for l t < 1 = omega arith in
@@ -144,16 +114,17 @@ module _ (l : ℕ) (ts : List Task) where
             passed = omega (arith, done.passed);
             lowest = omega (arith, ap (λ us. greatest (numbers_from (suc k) (uses l) us)) e, ap greatest (lowest_unused l t rest (suc k) unused), done.lowest);
             longest = omega (arith, longer, done.longest);
-            deadline = ap (earlier lock.deadline) (sym (deadline_unused l t rest unused) ∙ ap (smallest_deadline l) (sym e)) ∙ done.deadline;
+            within = done.within;
+            deadline = omega (arith, ap (due l) e, due_unused l t rest unused, done.deadline);
           })
 
-  pub counted_end : (k : ℕ) (lock : Lock) → drop k ts ≡ [] → Counted l ts k lock → lock ≡ lock_of l ts
-  unfolding greatest greatest_held smallest_deadline smallest those numbers_from
-  counted_end k lock e done =
-      same_lock lock (lock_of l ts)
+  counted_all : (k : ℕ) (lock : Lock) → drop k ts ≡ [] → Counted l ts k lock → lock ≡ record { lowest = lowest_ceiling l ts; longest = greatest_held l ts; deadline = due l ts }
+  unfolding greatest greatest_held least_due those numbers_from
+  counted_all k lock e done =
+      same_lock lock _
       (omega (arith, done.lowest, ap (λ us. greatest (numbers_from (suc k) (uses l) us)) e))
       (omega (arith, done.longest, ap (greatest_held l) e))
-      (sym (earlier_only lock.deadline 0 (omega arith)) ∙ ap (earlier lock.deadline) (sym (ap (smallest_deadline l) e)) ∙ done.deadline)
+      (omega (arith, done.within, done.deadline, ap (due l) e))
 
 -- the locks of a part
 module _ (p : Part) (fine : FinePart p) where
@@ -164,16 +135,13 @@ module _ (p : Part) (fine : FinePart p) where
       let e = ap (λ (t : Task). t.deadline) h.2 in
       (omega arith, omega arith)
 
-  fine_due : Due (tasks_of p)
-  fine_due t m = (fine_deadline t m).0
-
   -- the turn of a loop over the tasks
   pub counted_next : (j : ℕ) → j < p.locks → (k : ℕ) → k < p.count → (lock : Lock) → Counted (suc j) (tasks_of p) k lock → Counted (suc j) (tasks_of p) (k + 1) (with_user lock (k + 1) (get_or (get_or p.tasks k blank_task).uses j 0) (get_or p.tasks k blank_task).deadline)
   unfolding held_for
   counted_next j h k l lock done =
       let t = get_or p.tasks k blank_task in
       let e : held_for (suc j) (with_locks p.locks t) ≡ get_or t.uses j 0 = held_at p fine (suc j) (omega arith) (omega arith) t ∙ nth_get 0 j t.uses in
-      rw e at (counted_step (suc j) (tasks_of p) k lock (with_locks p.locks t) fine_due (tasks_at p fine k l) done)
+      rw e at (counted_step (suc j) (tasks_of p) k lock (with_locks p.locks t) (tasks_at p fine k l) done)
 
   module _ (l : ℕ) (from : 1 ≤ l) (upto : l ≤ p.locks) where
     pub held_most : (t : Task) → Memᴰ t (tasks_of p) → held_for l t ≤ number_limit
@@ -206,3 +174,18 @@ module _ (p : Part) (fine : FinePart p) where
 
     pub deadline_most : smallest_deadline l (tasks_of p) ≤ number_limit
     deadline_most = let d = smallest_due in omega (arith, d.2, fine_deadline d.0 d.1)
+
+    -- and so the smallest of them within the limit
+    due_smallest : due l (tasks_of p) ≡ smallest_deadline l (tasks_of p)
+    unfolding smallest_deadline
+    due_smallest =
+        least_smallest _ user.0.deadline (Memᴰ.map (λ k. k.deadline) ((those_iff (uses l) user.0 (tasks_of p)).1 (user.1, user.2))) each
+      where
+        each : (x : ℕ) → Memᴰ x (map (λ k. k.deadline) (those (uses l) (tasks_of p))) → x ≤ number_limit
+        each x m =
+            let h = (map_iff (λ k. k.deadline) x (those (uses l) (tasks_of p))).0 m in
+            omega (arith, h.2, fine_deadline h.0 ((those_iff (uses l) h.0 (tasks_of p)).0 h.1).0)
+
+    -- once all tasks are counted
+    pub counted_end : (k : ℕ) (lock : Lock) → p.count ≤ k → Counted l (tasks_of p) k lock → lock ≡ lock_of l (tasks_of p)
+    counted_end k lock h done = counted_all l (tasks_of p) k lock (tasks_end p fine k h) done ∙ ap (λ d. record { lowest = lowest_ceiling l (tasks_of p); longest = greatest_held l (tasks_of p); deadline = d }) due_smallest

@@ -4,12 +4,14 @@
 ghost use Rattle.std.specs.Prelude.{◌≡◌, ◌≤◌, ◌<◌};
 ghost use Rattle.task_set.specs.Code.Fine.{FinePart};
 ghost use Rattle.task_set.specs.Code.ByColumn.{ColumnsAre};
-ghost use Rattle.task_set.specs.Code.ByLock.{earlier, with_user, LocksAre, LongestBelow, blocked_for, blocking_by};
+ghost use Rattle.task_set.specs.Code.ByLock.{with_user, LocksAre, LowestAre, LongestBelow, blocked_for, blocking_by};
 
-use refusal::USE_PLACES;
+use demand::Workload;
+use refusal::{LOCK_LIMIT, NUMBER_LIMIT, USE_PLACES};
 
 // A task: least separation T, worst execution time C, deadline D; and for each lock of the part, in order of first mention, how long the
 // task holds it at most, 0 where it does not use it.
+// Kept: 0 and no `Option`: the definitions of blocking and of holding times take the greatest use, and a file cannot write a use of 0 ticks.
 #[derive(Clone, Copy)]
 pub struct Task {
     pub separation: u64,
@@ -20,6 +22,7 @@ pub struct Task {
 
 // A part: its server period, its tasks, lowest priority first, the number of its locks, and for each of them whether it is shared: another part of the file names
 // it too.
+// Kept: arrays with counts: V5 of docs/PAPER-01.md asks for a struct by value with an array of task structs and a count.
 #[derive(Clone, Copy)]
 pub struct Part {
     pub period: u64,
@@ -29,36 +32,31 @@ pub struct Part {
     pub shared: [bool; 8],
 }
 
-// The times of a part's tasks by columns: arrays can be lent to a loop, a struct would be copied.
+// The times of a part's tasks by columns: a loop reads one number of each task, which the columns have side by side.
 #[derive(Clone, Copy)]
 pub struct Columns {
-    pub separations: [u64; 16],
-    pub costs: [u64; 16],
+    pub times: Workload,
     pub deadlines: [u64; 16],
 }
 
-pub fn columns_of(part: Part) -> Columns
-    ensures { ColumnsAre part result }
+pub fn columns_of(part: &Part) -> Columns
+    ensures { ColumnsAre part.now result }
 {
-    let mut separations = [0u64; 16];
-    let mut costs = [0u64; 16];
-    let mut deadlines = [0u64; 16];
-    let mut k = 0;
-    while k < 16 {
-        let t = part.tasks[k];
-        separations[k] = t.separation;
-        costs[k] = t.cost;
-        deadlines[k] = t.deadline;
-        k += 1;
+    let mut times = Workload {
+        periods: [0; 16],
+        costs: [0; 16],
+        count: part.count,
+    };
+    let mut deadlines = [0; 16];
+    for (k, task) in part.tasks.iter().enumerate() {
+        times.periods[k] = task.separation;
+        times.costs[k] = task.cost;
+        deadlines[k] = task.deadline;
     }
-    Columns {
-        separations,
-        costs,
-        deadlines,
-    }
+    Columns { times, deadlines }
 }
 
-// A lock of a part: its lowest ceiling, its longest use, and the smallest deadline among its users.
+// A lock of a part: its lowest ceiling, its longest use, and the smallest deadline among its users, which is within the limit of numbers.
 #[derive(Clone, Copy)]
 pub struct Lock {
     pub lowest: usize,
@@ -66,88 +64,58 @@ pub struct Lock {
     pub deadline: u64,
 }
 
-// The locks of a part by columns.
-#[derive(Clone, Copy)]
-pub struct Locks {
-    pub lowest: [usize; 8],
-    pub longest: [u64; 8],
-    pub deadlines: [u64; 8],
-}
+// The locks of a part, in order of first mention.
+pub type Locks = [Lock; LOCK_LIMIT];
 
-// The smaller of two deadlines, where 0 stands for none.
-fn earlier_of(a: u64, b: u64) -> u64
-    ensures { result ≡ earlier a b }
-{
-    if a < 1 {
-        return b;
-    }
-    if b < 1 {
-        return a;
-    }
-    least::smaller(a, b)
-}
-
-// A lock after one more task: the task with this number holds it for c.
-fn with_user(lock: Lock, number: usize, c: u64, deadline: u64) -> Lock
-    ensures { result ≡ with_user lock number c deadline }
-{
-    if c < 1 {
-        return lock;
-    }
-    Lock {
-        lowest: number,
-        longest: least::larger(lock.longest, c),
-        deadline: earlier_of(lock.deadline, deadline),
-    }
-}
-
-// The locks of a part, from one walk over its tasks. What stands past them does not count: with the number of places written out the inner loop is unrolled.
-pub fn locks_of(part: Part) -> Locks
-    requires { FinePart part }
-    ensures { LocksAre part result }
-{
-    let mut lowest = [0usize; 8];
-    let mut longest = [0u64; 8];
-    let mut deadlines = [0u64; 8];
-    let mut k = 0;
-    while k < part.count {
-        let t = part.tasks[k];
-        let mut j = 0;
-        while j < 8 {
-            let mut lock = Lock {
-                lowest: lowest[j],
-                longest: longest[j],
-                deadline: deadlines[j],
-            };
-            lock = with_user(lock, k + 1, t.uses[j], t.deadline);
-            lowest[j] = lock.lowest;
-            longest[j] = lock.longest;
-            deadlines[j] = lock.deadline;
-            j += 1;
+impl Lock {
+    // One more task: the task with this number holds the lock for c.
+    fn count_user(&mut self, number: usize, c: u64, deadline: u64)
+        ensures { self.new ≡ with_user self.old number c deadline }
+    {
+        if 0 < c {
+            self.lowest = number;
+            self.longest = self.longest.max(c);
+            self.deadline = self.deadline.min(deadline);
         }
-        k += 1;
     }
-    Locks {
-        lowest,
-        longest,
-        deadlines,
+}
+
+// The locks of a part, from one walk over its tasks. What stands past them does not count: with a fixed number of places the inner loop is unrolled.
+pub fn locks_of(part: &Part) -> Locks
+    requires { FinePart part.now }
+    ensures { LocksAre part.now result }
+{
+    let mut locks = [Lock {
+        lowest: 0,
+        longest: 0,
+        deadline: NUMBER_LIMIT,
+    }; LOCK_LIMIT];
+    for k in 0..part.count {
+        let task = &part.tasks[k];
+        for (j, lock) in locks.iter_mut().enumerate() {
+            lock.count_user(k + 1, task.uses[j], task.deadline);
+        }
     }
+    locks
+}
+
+// The lowest ceiling of each lock.
+pub fn lowest_of(locks: &Locks) -> [usize; LOCK_LIMIT]
+    ensures { LowestAre locks.now result }
+{
+    locks.map(|lock| lock.lowest)
 }
 
 // For each place i and each lock at the place j, at 8 i + j: the longest use of the lock by a task below the place i.
-pub fn longest_below(part: Part) -> [u64; USE_PLACES]
-    ensures { LongestBelow part result }
+pub fn longest_below(part: &Part) -> [u64; USE_PLACES]
+    ensures { LongestBelow part.now result }
 {
     let mut table = [0u64; USE_PLACES];
-    let mut k = 8;
-    while k < USE_PLACES {
-        let t = part.tasks[k / 8 - 1];
-        let mut j = 0;
-        while j < 8 {
-            table[k + j] = least::larger(table[k + j - 8], t.uses[j]);
-            j += 1;
+    for i in 1..16 {
+        let task = &part.tasks[i - 1];
+        for j in 0..8 {
+            table[8 * i + j] = table[8 * i + j - 8].max(task.uses[j]);
         }
-        k += 8;
     }
     table
 }
@@ -164,16 +132,15 @@ fn longest_blocked(below: &[u64; USE_PLACES], ceilings: &[usize; 8], m: usize, i
     requires { (m ≤ 8) × (i < 16) }
     ensures { result ≡ blocking_by below.now ceilings.now m i }
 {
-    let mut greatest: u64 = 0;
-    let mut j = 0;
-    while j < m {
-        greatest = least::larger(greatest, blocked_for(ceilings[j], below[8 * i + j], i));
-        j += 1;
+    let mut greatest = 0;
+    for j in 0..m {
+        greatest = blocked_for(ceilings[j], below[8 * i + j], i).max(greatest);
     }
     greatest
 }
 
-// The blocking of the task at the place i under these ceilings of m locks. All eight have a call of their own: with the number written out the compiler leaves no loop.
+// The blocking of the task at the place i under these ceilings of m locks.
+// Kept: all eight have a call of their own, which the compiler unrolls: without it tests/bench/full.plan takes 2,298,949 instructions, not 2,162,850.
 pub fn blocking_at(below: &[u64; USE_PLACES], ceilings: &[usize; 8], m: usize, i: usize) -> u64
     requires { (m ≤ 8) × (i < 16) }
     ensures { result ≡ blocking_by below.now ceilings.now m i }

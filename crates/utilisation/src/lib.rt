@@ -8,16 +8,13 @@ use envelope::SCALE;
 use task_set::Part;
 
 // The utilisation of a part's tasks, rounded down, in parts of SCALE.
-pub fn share_of(part: Part) -> u64
-    requires { FinePart part }
-    ensures { ShareIs part result }
+pub fn share_of(part: &Part) -> u64
+    requires { FinePart part.now }
+    ensures { ShareIs part.now result }
 {
-    let mut sum: u64 = 0;
-    let mut k = 0;
-    while k < part.count {
-        let t = part.tasks[k];
-        sum += t.cost * SCALE / t.separation;
-        k += 1;
+    let mut sum = 0;
+    for task in &part.tasks[..part.count] {
+        sum += task.cost * SCALE / task.separation;
     }
     sum
 }

@@ -6,9 +6,10 @@ use native.Mathlib.Numerals.{add-one}
 use native.Mathlib.Omega.{arith}
 use mathlib.Core.Path.{◌≡◌, refl, sym, ap, ap₂, subst, ◌∙◌}
 use mathlib.Core.List.{List, [], ◌∷◌, ◌++◌, append-nil, append_assoc}
-use lib.ListN.{length, take, drop, get_or, set, length-set, length-append, length-drop, take-append-drop, drop_of_length-le}
+use lib.ListN.{length, take, drop, set, length-set, length-append, length-drop, take-append-drop}
 use lib.Seq.{length-take-le, take_at, drop-drop, drop-cons, drop-append-add, take-set-le, drop-set-lt, get_or-set_same, set_split, append_snoc}
-use Rattle.writer.specs.Code.Written.{written, Written}
+use Rattle.writer.specs.declared.Writer.{Writer}
+use Rattle.writer.specs.Code.Written.{written, Written, Begun, Room, Wrote}
 
 -- what stands before the end of a piece has the length that it should
 front_length : (at : ℕ) (p b : List ℕ) → at ≤ length b → length (take at b ++ p) ≡ at + length p
@@ -58,63 +59,68 @@ written_last at p x b h =
 pub write_one : (at x : ℕ) (b : List ℕ) → at < length b → Written at (x ∷ []) b (set b at x) (at + 1)
 write_one at x b h = record { bytes = sym (written_one at x b h); place = refl }
 
--- what is left to write, of a piece that belongs at `at` in the buffer `before`: the rest, from the place `next` of the buffer `now` on
-pub record Left (at : ℕ) (piece before : List ℕ) (next : ℕ) (rest now : List ℕ) : Type 0 where
-  pub same : written next rest now ≡ written at piece before
-  pub ends : next + length rest ≡ at + length piece
-  pub room : next + length rest ≤ length now
-  pub long : length now ≡ length before
+-- two pieces one behind another: there is room for the first, and for the second once the first is written; then both are
+pub room_first : {w : Writer} (p q : List ℕ) → Room (p ++ q) w → Room p w
+room_first p q room = record { fits = omega (arith, room.fits, length-append p q) }
 
-pub left_start : (at : ℕ) (piece before : List ℕ) → at + length piece ≤ length before → Left at piece before at piece before
-left_start at piece before h = record { same = refl; ends = refl; room = h; long = refl }
+module _ (p q : List ℕ) {a b : Writer} (room : Room (p ++ q) a) (first : Wrote p a b) where
+  pub room_second : Room q b
+  room_second =
+      let long : length b.out.now ≡ length a.out.now = ap length first.bytes.bytes ∙ length_written a.at p a.out.now (room_first p q room).fits in
+      record { fits = omega (arith, room.fits, length-append p q, first.bytes.place, long) }
 
-module _ {at : ℕ} {piece before : List ℕ} where
-  -- the rest in another form
-  pub left_as : {next : ℕ} {rest rest' now : List ℕ} → rest ≡ rest' → Left at piece before next rest now → Left at piece before next rest' now
-  left_as {next} {now = now} e l = subst (λ (r : List ℕ). Left at piece before next r now) e l
+  pub wrote_two : {c : Writer} → Wrote q b c → Wrote (p ++ q) a c
+  wrote_two second = record {
+    same = second.same ∙ first.same;
+    bytes = record {
+      bytes = second.bytes.bytes ∙ ap₂ (λ (k : ℕ) (out : List ℕ). written k q out) first.bytes.place first.bytes.bytes ∙ written_two a.at p q a.out.now (omega (arith, room.fits));
+      place = omega (arith, first.bytes.place, second.bytes.place, length-append p q);
+    };
+  }
 
+wrote_none : {w : Writer} → Wrote [] w w
+wrote_none {w} = record { same = refl; bytes = record { bytes = sym (written_none w.at w.out.now); place = sym (add-zero w.at) } }
+
+-- of what is written behind `before`, the rest is left, behind `now`
+pub record Left (whole : List ℕ) (before : Writer) (rest : List ℕ) (now : Writer) : Type 0 where
+  pub room : Room rest now
+  pub ends : (after : Writer) → Wrote rest now after → Wrote whole before after
+
+pub left_all : {whole : List ℕ} {w : Writer} → Room whole w → Left whole w whole w
+left_all room = record { room = room; ends = λ after e. e }
+
+module _ {whole rest : List ℕ} {before now : Writer} where
   -- there is room for the first piece of the rest
-  pub left_room : {next : ℕ} {now : List ℕ} (p rest : List ℕ) → Left at piece before next (p ++ rest) now → next + length p ≤ length now
-  left_room p rest l = omega (arith, l.room, length-append p rest)
+  pub left_room : {p : List ℕ} (q : List ℕ) → rest ≡ p ++ q → Left whole before rest now → Room p now
+  left_room {p} q e l = room_first p q (subst (λ (r : List ℕ). Room r now) e l.room)
 
-  -- the first piece of the rest is written
-  pub left_more : {next next' : ℕ} {now now' : List ℕ} (p rest : List ℕ) → Left at piece before next (p ++ rest) now → Written next p now now' next'
-      → Left at piece before next' rest now'
-  left_more {next} {next'} {now} {now'} p rest l w =
-      let r : next + length p ≤ length now = left_room p rest l in
-      let n : length now' ≡ length now = ap length w.bytes ∙ length_written next p now r in
+  -- it is written
+  pub left_more : {p q : List ℕ} {next : Writer} → rest ≡ p ++ q → Left whole before rest now → Wrote p now next → Left whole before q next
+  left_more {p} {q} e l w =
+      let room : Room (p ++ q) now = subst (λ (r : List ℕ). Room r now) e l.room in
       record {
-        same = ap₂ (λ (k : ℕ) (b : List ℕ). written k rest b) w.place w.bytes ∙ written_two next p rest now (omega arith) ∙ l.same;
-        ends = omega (arith, w.place, l.ends, length-append p rest);
-        room = omega (arith, w.place, l.room, length-append p rest);
-        long = n ∙ l.long;
+        room = room_second p q room w;
+        ends = λ after v. l.ends after (subst (λ (r : List ℕ). Wrote r now after) (sym e) (wrote_two p q room w v));
       }
 
+  -- all of it is written
+  pub left_last : {next : Writer} → Left whole before rest now → Wrote rest now next → Wrote whole before next
+  left_last {next} l w = l.ends next w
+
   -- nothing is left
-  pub left_none : {next : ℕ} {now : List ℕ} → Left at piece before next [] now → Written at piece before now next
-  left_none {next} {now} l = record { bytes = sym (written_none next now) ∙ l.same; place = sym (add-zero next) ∙ l.ends }
+  pub left_none : rest ≡ [] → Left whole before rest now → Wrote whole before now
+  left_none e l = l.ends now (subst (λ (r : List ℕ). Wrote r now now) (sym e) wrote_none)
 
-  -- the last piece is written
-  pub left_last : {next next' : ℕ} {p now now' : List ℕ} → Left at piece before next p now → Written next p now now' next' → Written at piece before now' next'
-  left_last {p = p} l w = left_none (left_more p [] (left_as (sym (append-nil p)) l) w)
+-- a writer that begins has room for what its buffer has room for
+pub begun_room : {p before : List ℕ} {w : Writer} → Begun before w → length p ≤ length before → Room p w
+begun_room b h = record { fits = omega (arith, b.start, h, ap length b.buffer_is) }
 
--- a word is copied: its byte i is written
-pub left_copied : (at : ℕ) (word before : List ℕ) (i : ℕ) (now : List ℕ) → i < length word → Left at word before (at + i) (drop i word) now
-    → Left at word before (at + (i + 1)) (drop (i + 1) word) (set now (at + i) (get_or word i 0))
-left_copied at word before i now h l =
-    let x = get_or word i 0 in
-    let cut : Left at word before (at + i) (x ∷ drop (suc i) word) now = subst (λ (r : List ℕ). Left at word before (at + i) r now) (drop-cons word i 0 h) l in
-    let room : at + i + 1 ≤ length now = left_room (x ∷ []) (drop (suc i) word) cut in
-    let done : Left at word before (at + i + 1) (drop (suc i) word) (set now (at + i) x) =
-    left_more (x ∷ []) (drop (suc i) word) cut (write_one (at + i) x now (omega arith)) in
-    let sum : at + i + 1 ≡ at + (i + 1) = omega arith in
-    subst (λ (k : ℕ). Left at word before k (drop (i + 1) word) (set now (at + i) x)) sum
-    (subst (λ (k : ℕ). Left at word before (at + i + 1) (drop k word) (set now (at + i) x)) (sym (add-one i)) done)
-
--- all of it is copied
-pub left_copied_all : (at : ℕ) (word before : List ℕ) (i : ℕ) (now : List ℕ) → length word ≤ i → Left at word before (at + i) (drop i word) now
-    → Written at word before now (at + i)
-left_copied_all at word before i now h l = left_none (subst (λ (r : List ℕ). Left at word before (at + i) r now) (drop_of_length-le word {i = i} h) l)
+-- and what it wrote stands at the start
+pub begun_wrote : {p before after : List ℕ} {w now : Writer} → Begun before w → Wrote p w now → after ≡ now.out.now → Written 0 p before after now.at
+begun_wrote {p} b e is = record {
+  bytes = is ∙ e.bytes.bytes ∙ ap₂ (λ (k : ℕ) (out : List ℕ). written k p out) b.start b.buffer_is;
+  place = e.bytes.place ∙ ap (λ (k : ℕ). k + length p) b.start;
+}
 
 -- a whole buffer is written from its start
 pub written_start : (p b : List ℕ) → written 0 p b ≡ p ++ drop (length p) b

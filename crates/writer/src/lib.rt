@@ -1,30 +1,78 @@
-// Bytes, words and numbers in base ten, written at a place of a lent buffer where there is room.
+// Bytes, words and numbers in base ten, written one behind another into a lent buffer.
 #![tactic(auto)]
 
-ghost use Rattle.std.specs.Prelude.{◌≡◌, [], ◌∷◌, ◌++◌, ◌+◌, ◌≤◌, length};
+ghost use Rattle.std.specs.Prelude.{◌≡◌, [], ◌∷◌, ◌++◌, ◌≤◌, length};
 ghost use Rattle.text.specs.Decimal.{digits_of};
-ghost use Rattle.writer.specs.Code.Written.{Written};
+ghost use Rattle.writer.specs.Code.Written.{Begun, Room, Wrote};
 
-// One byte.
-fn write_byte(out: &mut [u8], at: usize, b: u8) -> usize
-    requires { at + 1 ≤ length out.old }
-    ensures { Written at (b ∷ []) out.old out.new result }
-{
-    out[at] = b;
-    at + 1
+// A lent buffer, and the place in it where the next piece goes.
+#[derive(Drop)]
+pub struct Writer<'a> {
+    out: &'a mut [u8],
+    pub at: usize,
 }
 
-// A word, byte for byte.
-fn write_word(out: &mut [u8], at: usize, word: &[u8]) -> usize
-    requires { at + length word.now ≤ length out.old }
-    ensures { Written at word.now out.old out.new result }
-{
-    let mut i = 0;
-    while i < word.len() {
-        out[at + i] = word[i];
-        i += 1;
+impl<'a> Writer<'a> {
+    pub fn new(out: &'a mut [u8]) -> Writer<'a>
+        ensures same { result.out.ghost_name ≡ out.entry.ghost_name }
+        ensures begun { Begun out.old result }
+    {
+        Writer { out, at: 0 }
     }
-    at + i
+
+    // One byte.
+    fn byte(&mut self, b: u8)
+        requires { Room (b ∷ []) self.old }
+        ensures { Wrote (b ∷ []) self.old self.new }
+    {
+        self.out[self.at] = b;
+        self.at += 1;
+    }
+
+    // A word, byte for byte.
+    fn word(&mut self, word: &[u8])
+        requires { Room word.now self.old }
+        ensures { Wrote word.now self.old self.new }
+    {
+        let next = self.at + word.len();
+        self.out[self.at..next].copy_from_slice(word);
+        self.at = next;
+    }
+
+    // A number's digits, the last one first.
+    fn number(&mut self, n: u64)
+        requires { Room (digits_of n) self.old }
+        ensures { Wrote (digits_of n) self.old self.new }
+    {
+        let next = self.at + digit_count(n);
+        let mut rest = n;
+        let mut i = next - 1;
+        while 10 <= rest {
+            self.out[i] = (48 + rest % 10) as u8;
+            rest = rest / 10;
+            i -= 1;
+        }
+        self.out[i] = (48 + rest) as u8;
+        self.at = next;
+    }
+
+    // A word and the byte behind it.
+    pub fn word_field(&mut self, word: &[u8], end: u8)
+        requires { Room (word.now ++ end ∷ []) self.old }
+        ensures { Wrote (word.now ++ end ∷ []) self.old self.new }
+    {
+        self.word(word);
+        self.byte(end);
+    }
+
+    // A number and the byte behind it.
+    pub fn number_field(&mut self, n: u64, end: u8)
+        requires { Room (digits_of n ++ end ∷ []) self.old }
+        ensures { Wrote (digits_of n ++ end ∷ []) self.old self.new }
+    {
+        self.number(n);
+        self.byte(end);
+    }
 }
 
 // How many digits a number has.
@@ -34,43 +82,8 @@ pub fn digit_count(n: u64) -> usize
     let mut rest = n;
     let mut k = 1;
     while 10 <= rest {
-        rest = rest / 10;
+        rest /= 10;
         k += 1;
     }
     k
-}
-
-// A number's digits, the last one first.
-fn write_number(out: &mut [u8], at: usize, n: u64) -> usize
-    requires { at + length (digits_of n) ≤ length out.old }
-    ensures { Written at (digits_of n) out.old out.new result }
-{
-    let next = at + digit_count(n);
-    let mut rest = n;
-    let mut i = next - 1;
-    while 10 <= rest {
-        out[i] = (48 + rest % 10) as u8;
-        rest = rest / 10;
-        i -= 1;
-    }
-    out[i] = (48 + rest) as u8;
-    next
-}
-
-// A word and the byte behind it.
-pub fn write_word_field(out: &mut [u8], at: usize, word: &[u8], end: u8) -> usize
-    requires { at + length (word.now ++ end ∷ []) ≤ length out.old }
-    ensures { Written at (word.now ++ end ∷ []) out.old out.new result }
-{
-    let next = write_word(out, at, word);
-    write_byte(out, next, end)
-}
-
-// A number and the byte behind it.
-pub fn write_number_field(out: &mut [u8], at: usize, n: u64, end: u8) -> usize
-    requires { at + length (digits_of n ++ end ∷ []) ≤ length out.old }
-    ensures { Written at (digits_of n ++ end ∷ []) out.old out.new result }
-{
-    let next = write_number(out, at, n);
-    write_byte(out, next, end)
 }

@@ -56,15 +56,15 @@ pub const ROOM: usize = 8192;
 pub const CYCLE: usize = 720;
 
 /// Bytes of stack that [`plan_into`] needs; [`plan`] has its listing on the heap.
-pub const STACK_PLAN: usize = 125 * 1024;
+pub const STACK_PLAN: usize = 48 * 1024;
 /// Bytes of stack that [`chart_into`] needs; [`chart`] needs some KB more for the chart given back.
-pub const STACK_CHART: usize = 125 * 1024;
+pub const STACK_CHART: usize = 46 * 1024;
 /// Bytes of stack that [`candidates`] needs.
-pub const STACK_CANDIDATES: usize = 63 * 1024;
+pub const STACK_CANDIDATES: usize = 36 * 1024;
 /// Bytes of stack that [`name`] needs.
-pub const STACK_NAME: usize = 60 * 1024;
+pub const STACK_NAME: usize = 32 * 1024;
 /// Bytes of stack that [`weigh`] needs.
-pub const STACK_WEIGH: usize = 4 * 1024;
+pub const STACK_WEIGH: usize = 5 * 1024;
 /// Bytes of stack that [`supply`] needs.
 pub const STACK_SUPPLY: usize = 1024;
 

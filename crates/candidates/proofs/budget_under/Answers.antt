@@ -1,91 +1,57 @@
 -- `candidates::budget_under` meets its contract. The invariant: from this budget on, the tasks that are left give the same answer; the places behind
 -- them hold the blockings; and the need of the task above them is not met before `time`.
 -- Assumes nothing.
-use Prim.Native.Nat.{ℕ, ◌-◌, ◌≤◌, ◌<◌}
+use Prim.Native.Nat.{ℕ, ◌-◌, ◌≤◌}
 use native.Mathlib.Omega.{arith}
-use mathlib.Core.Path.{◌≡◌}
-use mathlib.Core.List.{List}
-use lib.ListN.{length}
-use Rattle.refusal.specs.Limits.{number_limit}
-use Rattle.task_set.specs.declared.Task.{Task}
-use Rattle.task_set.specs.Code.ByColumn.{times_of}
-use Rattle.task_set.specs.Code.ByLock.{blocking_by}
-use Rattle.candidates.proofs.Budgets.{lowered_start, lowered_step, lowered_none, lowered_end}
-use Rattle.candidates.proofs.Starts.{carried_start, carried_below, carried_step}
+use mathlib.Core.Path.{◌≡◌, refl}
+use lib.ListN.{get_or}
+use Rattle.budget.specs.Code.Passing.{above, NoneMet, FineSearch}
+use Rattle.candidates.specs.Code.KeptSearch.{due_at}
+use Rattle.candidates.proofs.Budgets.{lowered_step, lowered_none, lowered_end}
+use Rattle.candidates.proofs.Starts.{carried_below, carried_step}
 use Rattle.candidates.proofs.budget_under.Goals as goal
-use Rattle.candidates.proofs.budget_under.Goals.{After-loop-i, After-t25-1, After-task_budget-arg-1, In-At, In-Nothing, Start, else-costs-k, then-costs-k}
+use Rattle.candidates.proofs.budget_under.Goals.{else-tasks-k, then-tasks-k}
 
--- the tasks and their blockings
-abbrev tasks : Start → List Task
-tasks s = times_of s.args.separations.now s.args.costs.now s.args.n
-
-abbrev blocking : Start → ℕ → ℕ
-blocking s = blocking_by s.args.below.now s.args.ceilings.now s.args.m
-
-room : (s : Start) → length s.args.tested ≡ 16
-room s = omega arith
-
-pub loop-i-init : goal.loop-i-init
-loop-i-init c =
-    let a = c.args in
-    (lowered_start (tasks c) a.costs.now a.deadlines.now a.period (blocking c) a.tested a.n a.q (omega arith) (omega arith), carried_start a.separations.now a.costs.now a.deadlines.now a.n a.period a.q)
-
-pub blocking_at-b-requires : goal.blocking_at-b-requires
-blocking_at-b-requires c = (c.requires.3, omega (arith, c.requires.0.few))
-
-pub bounds-costs-k : goal.bounds-costs-k
-bounds-costs-k c = omega (arith, c.requires.0.few)
-
--- the task at the place i − 1 and its blocking
-last : (c : After-t25-1) → c.loop-i.i - 1 < c.args.n
-last c = omega (arith, c.loop-i.invariant.0.few)
-
-blocked_most : (c : After-t25-1) → c.blocking_at-b.result ≤ number_limit
-blocked_most c = omega (arith, c.blocking_at-b.ensures, c.requires.4 _ (last c))
-
-pub overflow_add-costs : goal.overflow_add-costs
-overflow_add-costs c = omega (arith, blocked_most c, (c.requires.0.each _ (last c)).cost_most)
-
-pub bounds-deadlines-k : goal.bounds-deadlines-k
-bounds-deadlines-k c = omega (arith, c.requires.0.few)
-
-pub bounds-blocked-k : goal.bounds-blocked-k
-bounds-blocked-k c = omega (arith, c.requires.0.few)
-
-pub task_budget-passed-requires : goal.task_budget-passed-requires
-task_budget-passed-requires c =
-    let a = c.args in
-    let at = c.loop-i in
+pub task_budget-requires : goal.task_budget-requires
+task_budget-requires c =
+    let at = c.loop-k in
+    let t = c.args.tables.now in
+    let f = c.requires.0 in
+    let few = at.invariant.0.few in
     let b = c.blocking_at-b.result in
-    let k = last (goal.at.task_budget-passed-requires c).After-t25-1 in
-    let most = blocked_most (goal.at.task_budget-passed-requires c).After-t25-1 in
-    elim c.if-costs-k.branch [
-      | then-costs-k w ↦ rw w.time-is (c.requires.0, k, c.requires.1 _ k, omega arith, most, omega arith, omega arith, omega arith, λ t p h. absurd (omega arith))
-      | else-costs-k w ↦
+    let P : ℕ → Type 0 = λ time. FineSearch t.columns.times (at.k - 1) (get_or t.columns.deadlines (at.k - 1) 0) t.period b at.passing.budget time in
+    let from : (time : ℕ) → 1 ≤ time → NoneMet t.period at.passing.budget b (due_at t (at.k - 1)) (above t.columns.times (at.k - 1)) time → P time =
+    λ time some none. record {
+      fine = f.times;
+      place = omega arith;
+      deadline_most = f.deadlines_most _ (omega arith);
+      period_most = f.period_most;
+      blocking_most = omega (arith, c.blocking_at-b.ensures, f.blockings_most c.args.ceilings.now (at.k - 1) (omega arith));
+      budget_some = at.invariant.0.some;
+      budget_most = at.invariant.0.most;
+      start_some = some;
+      none_met = none;
+    } in
+    elim c.if-tasks-k.branch [
+      | then-tasks-k w ↦ rw w.time-is (from 1 (omega arith) (λ t p h. absurd (omega arith)))
+      | else-tasks-k w ↦
           rw w.time-is
-          (c.requires.0, k, c.requires.1 _ k, omega arith, most, omega arith, omega arith, at.invariant.1.some, carried_below a.separations.now a.costs.now a.deadlines.now a.n a.period at.i at.budget at.above at.time b c.requires.0 (omega arith) at.invariant.1 w.if-costs-k.false)
+          (from at.time at.invariant.1.some (carried_below t.columns.times t.columns.deadlines t.period at.k (at.k - 1) at.passing.budget at.above at.time b (omega arith) f.times at.invariant.1 w.if-tasks-k.false))
     ]
 
-pub bounds-blocked-k-in-At : goal.bounds-blocked-k-in-At
-bounds-blocked-k-in-At c = omega (arith, c.requires.0.few)
+pub returns-in_err-passed : goal.returns-in_err-passed
+returns-in_err-passed c =
+    rw c.from_residual.ensures
+    (lowered_none c.args.tables.now c.args.ceilings.now c.args.last.now (omega arith) c.loop-k.invariant.0 c.blocking_at-b.ensures c.in_err-passed.ensures.value refl)
 
-pub loop-i-preserved : goal.loop-i-preserved
-loop-i-preserved c =
-    let at = c.loop-i in
-    let a = c.args in
-    let is = c.task_budget-passed.ensures in (
-      lowered_step (tasks (goal.at.loop-i-preserved c).Start) a.costs.now a.deadlines.now a.period (blocking (goal.at.loop-i-preserved c).Start) a.tested a.n a.q at.i at.budget at.blocked at.invariant.0 (omega arith) _ c.blocking_at-b.ensures _ is.value _ c.in-At.is (omega (arith, c.requires.0.few, room (goal.at.loop-i-preserved c).Start)),
-      carried_step a.separations.now a.costs.now a.deadlines.now a.n a.period at.i _ _ _ _ (omega arith) at.invariant.0.few is c.in-At.is,
-    )
-
-pub returns-in-Nothing : goal.returns-in-Nothing
-returns-in-Nothing c =
-    let at = c.loop-i in
-    let a = c.args in
-    lowered_none (tasks (goal.at.returns-in-Nothing c).Start) a.costs.now a.deadlines.now a.period (blocking (goal.at.returns-in-Nothing c).Start) a.tested a.n a.q at.i at.budget at.blocked at.invariant.0 (omega arith) _ c.blocking_at-b.ensures _ c.task_budget-passed.ensures.value c.in-Nothing.is
+pub loop-k-preserved : goal.loop-k-preserved
+loop-k-preserved c =
+    let t = c.args.tables.now in
+    let is = c.in_ok-passed.ensures in
+    (lowered_step t c.args.ceilings.now c.args.last.now (omega arith) c.loop-k.invariant.0 c.blocking_at-b.ensures is.value c.requires.0.times.few _ refl, carried_step t.columns.times t.columns.deadlines t.period (c.loop-k.k - 1) _ _ _ (omega arith) is)
 
 pub returns : goal.returns
 returns c =
-    let at = c.loop-i in
-    let a = c.args in
-    lowered_end (tasks (goal.at.returns c).Start) a.costs.now a.deadlines.now a.period (blocking (goal.at.returns c).Start) a.tested a.n a.q at.i at.budget at.blocked at.invariant.0 c.loop-i-test.false
+    let at = c.loop-k in
+    let e : at.k ≡ 0 = omega arith in
+    lowered_end c.args.tables.now c.args.ceilings.now c.args.last.now at.passing (rw e at at.invariant.0)

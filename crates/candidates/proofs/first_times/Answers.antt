@@ -1,14 +1,8 @@
--- `candidates::first_times` meets its contract: each turn fills one place.
+-- `candidates::first_times` meets its contract.
 -- Assumes nothing.
-use native.Mathlib.Omega.{arith}
-use Rattle.least.proofs.Fill.{fill_start, fill_step}
+use Rattle.std.specs.Prelude.{false}
+use Rattle.std.proofs.Common.{rules}
 use Rattle.candidates.proofs.first_times.Goals as goal
 
-pub loop-j-init : goal.loop-j-init
-loop-j-init c = fill_start 0 _ 8 0
-
-pub loop-j-preserved : goal.loop-j-preserved
-loop-j-preserved c = let l = c.loop-j in fill_step 0 _ 8 l.times l.j _ l.invariant (omega arith) c.first_time.ensures
-
 pub returns : goal.returns
-returns c j h = c.loop-j.invariant.each j (omega arith)
+returns c j h = let m = c.map.ensures.items.at j false 0 h in search (rules, m)

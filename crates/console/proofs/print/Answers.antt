@@ -9,7 +9,7 @@ use Rattle.console.proofs.print.Goals as goal
 pub write_refusal-count-requires : goal.write_refusal-count-requires
 write_refusal-count-requires c =
     let p = c.plan-p in
-    refusal_room _ _ _ p.new.out (omega arith) (omega arith) (omega arith)
+    refusal_room _ _ p.new.out (omega arith) (omega arith) (omega arith)
 
 pub returns-in-Done-clause-bytes : goal.returns-in-Done-clause-bytes
 returns-in-Done-clause-bytes c =
@@ -34,5 +34,5 @@ returns-in-Done-clause-room c =
 
 pub returns-in-Refused-clause-room : goal.returns-in-Refused-clause-room
 returns-in-Refused-clause-room c =
-    let room = refusal_room 0 c.number-number.result c.place-place.result c.plan-p.new.out (omega arith) (omega arith) (omega arith) in
+    let room = refusal_room c.number-number.result c.place-place.result c.plan-p.new.out (omega arith) (omega arith) (omega arith) in
     omega (arith, room, c.write_refusal-count.ensures.place)

@@ -2,6 +2,7 @@
 --   demand_from periods costs n s t == Σ ⌈t/P⌉×C over those from the place s on, of n
 --   FinePeriods periods n           == there are at most 16 periods, each from 1 to the limit of numbers
 --   FineDemand periods costs n      == and no cost is greater than that of a row
+--   FineWorkload w                  == it is so of the columns of a workload
 --   DemandIs periods costs n s t x  == x is this demand, and within its limit
 --   SameUntil periods n s t most e  == e is from t to `most`, and in e ticks each task from the place s on comes as often as in t ticks
 --   cost_limit                      == the greatest cost: Q + X of a row; a task's C is less
@@ -11,6 +12,7 @@ use Rattle.std.specs.Prelude.{ℕ, ◌-◌, ◌*◌, ◌≤◌, ◌<◌, ◌≡�
 use Rattle.least.specs.Round.{ceil_div}
 use Rattle.least.specs.Lists.{sum, count_from}
 use Rattle.refusal.specs.Limits.{number_limit}
+use Rattle.demand.specs.declared.Workload.{Workload}
 
 unfoldable pub demand_from : List ℕ → List ℕ → ℕ → ℕ → ℕ → ℕ
 demand_from periods costs n s t = sum (map (λ k. ceil_div t (get_or periods k 0) * get_or costs k 0) (count_from s (n - s)))
@@ -29,6 +31,9 @@ pub record FinePeriods (periods : List ℕ) (n : ℕ) : Type 0 where
 pub record FineDemand (periods costs : List ℕ) (n : ℕ) : Type 0 where
   pub fine : FinePeriods periods n
   pub most : (k : ℕ) → k < n → get_or costs k 0 ≤ cost_limit
+
+abbrev pub FineWorkload : Workload → Type 0
+FineWorkload w = FineDemand w.periods w.costs w.count
 
 pub record DemandIs (periods costs : List ℕ) (n s t x : ℕ) : Type 0 where
   pub value : x ≡ demand_from periods costs n s t

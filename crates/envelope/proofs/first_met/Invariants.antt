@@ -6,7 +6,7 @@ use Rattle.envelope.proofs.Meeting.{meeting_time}
 use Rattle.envelope.proofs.first_met.Given as goal
 
 abbrev pub invariant-loop-t : goal.invariant-loop-t
-invariant-loop-t l = (l.start ≤ l.t) × UnsolvedFrom l.start (meeting_time l.periods l.costs l.n l.s l.own l.by) l.t
+invariant-loop-t l = (l.start ≤ l.t) × UnsolvedFrom l.start (meeting_time l.rows.periods l.rows.costs l.rows.count l.s l.own l.by) l.t
 
 abbrev pub decreases-loop-t : goal.decreases-loop-t
 decreases-loop-t l = l.limit + 1 - l.t

@@ -5,7 +5,7 @@ use Rattle.envelope.specs.Code.Envelope.{NoEarlier}
 use Rattle.envelope.proofs.no_earlier.Given as goal
 
 abbrev pub invariant-loop-far : goal.invariant-loop-far
-invariant-loop-far l = NoEarlier l.periods l.costs l.n l.s l.own l.by l.t l.next l.far
+invariant-loop-far l = NoEarlier l.rows.periods l.rows.costs l.rows.count l.s l.own l.by l.t l.next l.far
 
 abbrev pub decreases-loop-far : goal.decreases-loop-far
 decreases-loop-far l = l.limit + 1 - l.far

@@ -2,31 +2,22 @@
 -- beside their demand.
 --   met_at by x v                               == times × x + wait ≤ rate × v: a demand of x is met by the time v
 --   first_met periods costs n s own by a limit  == the least v, a ≤ v ≤ limit, by which `own` and the demand in v ticks are met
---   FineSupply by                               == it gives at most a tick in every tick, and its numbers are in range
 --   slope_scale                                 == a slope of 1 is so many ticks in so many: slopes are whole numbers
 --   LineIs periods costs n s t line             == from t ticks on the demand is not below the line
 --   CrossingIs x slope by r                     == a demand of x and of the slope is met at no time before r
 --   NoEarlier periods costs n s own by t next r == r is `next` or later, and no time from t and `next` on by which the demand is met is before r
 -- Assumes nothing.
-use Rattle.std.specs.Prelude.{ℕ, suc, ◌+◌, ◌-◌, ◌*◌, ◌^◌, ◌≤◌, ◌<◌, Bool, List, leb}
-use Rattle.least.specs.declared.Least.{Least}
+use Rattle.std.specs.Prelude.{ℕ, suc, ◌+◌, ◌-◌, ◌*◌, ◌^◌, ◌≤◌, ◌<◌, Bool, List, leb, Option}
 use Rattle.least.specs.Search.{least_from}
-use Rattle.refusal.specs.Limits.{number_limit}
 use Rattle.demand.specs.Code.Demand.{demand_from}
-use Rattle.envelope.specs.declared.LinearSupply.{LinearSupply}
+use Rattle.envelope.specs.declared.supply.LinearSupply.{LinearSupply}
 use Rattle.envelope.specs.declared.Line.{Line}
 
 abbrev pub met_at : LinearSupply → ℕ → ℕ → Bool
 met_at by x v = leb (by.times * x + by.wait) (by.rate * v)
 
-unfoldable pub first_met : List ℕ → List ℕ → ℕ → ℕ → ℕ → LinearSupply → ℕ → ℕ → Least
+unfoldable pub first_met : List ℕ → List ℕ → ℕ → ℕ → ℕ → LinearSupply → ℕ → ℕ → Option ℕ
 first_met periods costs n s own by a limit = least_from (λ v. met_at by (own + demand_from periods costs n s v) v) a (suc limit - a)
-
-pub record FineSupply (by : LinearSupply) : Type 0 where
-  pub some : 1 ≤ by.rate
-  pub slow : by.rate ≤ by.times
-  pub times_most : by.times ≤ number_limit
-  pub wait_most : by.wait ≤ number_limit * number_limit
 
 abbrev pub slope_scale : ℕ
 slope_scale = 2 ^ 28

@@ -1,35 +1,31 @@
--- `fields::is_name` meets its contract. The invariant: what is left decides.
+-- `fields::is_name` meets its contract.
 -- Assumes nothing.
-use native.Mathlib.Omega.{arith}
-use borrow.Author.Tests.{lt-leb, le-leb}
+use mathlib.Core.Path.{◌≡◌, ◌∙◌}
+use mathlib.Core.Bool.{false, and-false}
+use mathlib.Core.List.{List}
+use lib.ListN.{length}
+use Prim.Native.Nat.{ℕ, ◌≤◌, ◌<◌}
+use borrow.Author.Tests.{le-leb, lt-leb}
+use Rattle.std.proofs.Common.{rules, tests, ◌⊎◌, inl, inr}
+use Rattle.std.specs.List.{list_all}
+use Rattle.std.proofs.lemmas.Iterator.{YieldsList-from_slice}
+use Rattle.std.proofs.lemmas.Iterator.Search.{all_from_yields_List}
 use Rattle.fields.specs.Fields.{is_name, is_name_byte}
-use Rattle.fields.proofs.Bytewise.{every_more, every_stop, every_end}
-use mathlib.Core.Path.{refl, ◌∙◌}
+use Rattle.fields.proofs.Bytewise.{all_every}
 use Rattle.fields.proofs.is_name.Goals as goal
 
-pub returns-then-f-lt1 : goal.returns-then-f-lt1
+pub returns-then-f-le-NAME_LIMIT : goal.returns-then-f-le-NAME_LIMIT
 unfolding is_name
-returns-then-f-lt1 c = simp (lt-leb _ _ c.if-f-lt1.true)
+returns-then-f-le-NAME_LIMIT c =
+    let f = c.args.f.now in
+    let e : c.all.result ≡ list_all is_name_byte f = all_from_yields_List is_name_byte _ _ c.all.result c.all.ensures.ran (YieldsList-from_slice f (cc)) (λ x b q k. search (rules, tests)) in
+    let h = c.if-f-le-NAME_LIMIT.true in
+    simp (le-leb _ _ h.0, le-leb _ _ h.1) (e ∙ all_every is_name_byte f)
 
-pub returns-then-f-gt-NAME_LIMIT : goal.returns-then-f-gt-NAME_LIMIT
+untested : (f : List ℕ) → ((1 ≤ length f) × (8 < length f)) ⊎ (length f < 1) → is_name f ≡ false
 unfolding is_name
-returns-then-f-gt-NAME_LIMIT c = simp (le-leb _ _ c.if-f-lt1.false, lt-leb _ _ c.if-f-gt-NAME_LIMIT.true)
+untested f (inl h) = simp (lt-leb (length f) 8 h.1, and-false)
+untested f (inr h) = simp (lt-leb 1 (length f) h)
 
-pub loop-i-init : goal.loop-i-init
-loop-i-init c = (c.if-f-lt1.false, c.if-f-gt-NAME_LIMIT.false, refl)
-
-pub loop-i-preserved : goal.loop-i-preserved
-loop-i-preserved c =
-    (c.loop-i.invariant.0, c.loop-i.invariant.1, c.loop-i.invariant.2 ∙ every_more is_name_byte c.args.f.now c.loop-i.i (omega arith) (cc))
-
-pub returns-else-is_name_byte : goal.returns-else-is_name_byte
-unfolding is_name
-returns-else-is_name_byte c =
-    let v = c.loop-i.invariant in
-    simp (le-leb _ _ v.0, le-leb _ _ v.1, v.2 ∙ every_stop is_name_byte c.args.f.now c.loop-i.i (omega arith) (cc))
-
-pub returns : goal.returns
-unfolding is_name
-returns c =
-    let v = c.loop-i.invariant in
-    simp (le-leb _ _ v.0, le-leb _ _ v.1, v.2 ∙ every_end is_name_byte c.args.f.now c.loop-i.i c.loop-i-test.false)
+pub returns-else-f-le-NAME_LIMIT : goal.returns-else-f-le-NAME_LIMIT
+returns-else-f-le-NAME_LIMIT c = cc (untested _ c.if-f-le-NAME_LIMIT.either)

@@ -1,19 +1,14 @@
 -- `fields::is_name_byte` meets its contract.
 -- Assumes nothing.
 use mathlib.Core.Path.{sym, ◌∙◌}
-use mathlib.Core.Bool.{or-true, or-false}
-use borrow.Author.Tests.{lt-leb, le-leb}
+use Rattle.text.specs.Decimal.{is_digit}
 use Rattle.fields.specs.Fields.{is_name_byte}
 use Rattle.fields.proofs.is_name_byte.Goals as goal
 
-pub returns-then-is_digit : goal.returns-then-is_digit
-unfolding is_name_byte
-returns-then-is_digit c = simp (sym c.is_digit.ensures ∙ c.if-is_digit.true, or-true)
+pub returns-then-is_ascii_lowercase : goal.returns-then-is_ascii_lowercase
+unfolding is_name_byte is_digit
+returns-then-is_ascii_lowercase c = simp (sym c.is_ascii_lowercase.ensures.value ∙ c.if-is_ascii_lowercase.true) c.if-is_ascii_lowercase.true
 
-pub returns-then-b-lt97 : goal.returns-then-b-lt97
-unfolding is_name_byte
-returns-then-b-lt97 c = simp (sym c.is_digit.ensures ∙ c.if-is_digit.false, lt-leb _ _ c.if-b-lt97.true)
-
-pub returns : goal.returns
-unfolding is_name_byte
-returns c = simp (sym c.is_digit.ensures ∙ c.if-is_digit.false, le-leb _ _ c.if-b-lt97.false, or-false)
+pub returns-else-is_ascii_lowercase : goal.returns-else-is_ascii_lowercase
+unfolding is_name_byte is_digit
+returns-else-is_ascii_lowercase c = simp (sym c.is_ascii_lowercase.ensures.value ∙ c.if-is_ascii_lowercase.false) c.is_ascii_digit.ensures.value

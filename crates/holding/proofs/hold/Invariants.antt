@@ -8,14 +8,7 @@ use Rattle.holding.proofs.Iteration.{hold_need}
 use Rattle.holding.proofs.hold.Given as goal
 
 abbrev pub invariant-loop-w : goal.invariant-loop-w
-invariant-loop-w l = (1 ≤ l.w) × Unsolved (hold_need (times_of l.separations l.costs l.n) l.g l.r) l.w
+invariant-loop-w l = (1 ≤ l.w) × Unsolved (hold_need (times_of l.tasks) l.g l.r) l.w
 
 abbrev pub decreases-loop-w : goal.decreases-loop-w
 decreases-loop-w l = l.limit + 1 - l.w
-
--- the labelled loop makes one turn
-abbrev pub invariant-search : goal.invariant-search
-invariant-search l = (1 ≤ l.w) × Unsolved (hold_need (times_of l.separations l.costs l.n) l.g l.r) l.w
-
-abbrev pub decreases-search : goal.decreases-search
-decreases-search l = 0

@@ -6,39 +6,35 @@
 --   BeginIs ts g most r b      == a search from r on may begin at b
 --   lowest_held ts g limit x r == the lowest ceiling, from r to n, at which the holding time is at most the limit and x, with that time
 -- Assumes nothing.
-use Rattle.std.specs.Prelude.{ℕ, suc, ◌+◌, ◌-◌, ◌≤◌, ◌<◌, ◌≡◌, false, List, leb, length}
-use Rattle.least.specs.declared.Least.{Least}
-use Rattle.least.specs.declared.Least.TheVariants.{At, Nothing}
+use Rattle.std.specs.Prelude.{ℕ, suc, ◌+◌, ◌-◌, ◌≤◌, ◌<◌, ◌≡◌, false, List, leb, length, Option, Some, None}
 use Rattle.least.specs.Search.{least_from, least_up_to, number_or0}
 use Rattle.task_set.specs.declared.Task.{Task}
 use Rattle.task_set.specs.Tasks.{higher, demand_in}
-use Rattle.holding.specs.declared.Ceiling.{Ceiling}
-use Rattle.holding.specs.declared.Ceiling.TheVariants.{Held, NotHeld}
+use Rattle.holding.specs.declared.Held.{Held}
 use Rattle.holding.specs.declared.Hint.{Hint}
-use Rattle.holding.specs.declared.Begin.{Begin}
 use Rattle.holding.specs.Holding.{within}
 
-unfoldable pub hold_up_to : List Task → ℕ → ℕ → ℕ → Least
+unfoldable pub hold_up_to : List Task → ℕ → ℕ → ℕ → Option ℕ
 hold_up_to ts g r limit = least_up_to (λ w. leb (g + demand_in (higher r ts) w) w) limit
 
 abbrev pub NoneHeld : List Task → ℕ → ℕ → ℕ → Type 0
 NoneHeld ts g r s = (w : ℕ) → 1 ≤ w → w < s → leb (g + demand_in (higher r ts) w) w ≡ false
 
 pub record SearchedTo (ts : List Task) (g most r c w : ℕ) : Type 0 where
-  pub missed : (k : ℕ) → r ≤ k → k < c → hold_up_to ts g k most ≡ Nothing
+  pub missed : (k : ℕ) → r ≤ k → k < c → hold_up_to ts g k most ≡ None
   pub some : 1 ≤ w
   pub none : NoneHeld ts g c w
 
 abbrev pub HintIs : List Task → Hint → Type 0
 HintIs ts h = SearchedTo ts h.longest h.most h.from h.ceiling h.time
 
-abbrev pub BeginIs : List Task → ℕ → ℕ → ℕ → Begin → Type 0
+abbrev pub BeginIs : List Task → ℕ → ℕ → ℕ → Held → Type 0
 BeginIs ts g most r b = (r ≤ b.ceiling) × SearchedTo ts g most r b.ceiling b.time
 
 -- a ceiling that was found, with its holding time
-abbrev pub with_time : List Task → ℕ → ℕ → Least → Ceiling
-with_time ts g limit (At r) = Held r (number_or0 (hold_up_to ts g r limit))
-with_time ts g limit Nothing = NotHeld
+abbrev pub with_time : List Task → ℕ → ℕ → Option ℕ → Option Held
+with_time ts g limit (Some r) = Some (record { ceiling = r; time = number_or0 (hold_up_to ts g r limit) })
+with_time ts g limit None = None
 
-unfoldable pub lowest_held : List Task → ℕ → ℕ → ℕ → ℕ → Ceiling
+unfoldable pub lowest_held : List Task → ℕ → ℕ → ℕ → ℕ → Option Held
 lowest_held ts g limit x r = with_time ts g limit (least_from (λ k. within x (hold_up_to ts g k limit)) r (suc (length ts) - r))

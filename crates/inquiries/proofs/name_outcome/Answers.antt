@@ -6,4 +6,4 @@ use Rattle.inquiries.proofs.Named.{stretch_outcome}
 use Rattle.inquiries.proofs.name_outcome.Goals as goal
 
 pub returns : goal.returns
-returns c = ap (λ (r : NameStretch). r.outcome) c.name_stretch-n.ensures.is ∙ stretch_outcome c.args.file.now c.args.part
+returns c = ap (λ (r : NameStretch). r.outcome) c.name_stretch.ensures.is ∙ stretch_outcome c.args.file.now c.args.part

@@ -5,7 +5,4 @@ use Rattle.listing.proofs.Lines.{bound_length}
 use Rattle.listing.proofs.bound_length.Goals as goal
 
 pub returns : goal.returns
-returns c =
-    let a = c.args in
-    let e = bound_length a.bound in
-    (omega (arith, e, c.digit_count-2.ensures, c.digit_count.ensures), omega arith)
+returns c = let e = bound_length c.args.bound in (omega (arith, e, c.digit_count-2.ensures, c.digit_count.ensures), omega arith)

@@ -5,6 +5,4 @@ use Rattle.listing.proofs.Lines.{ceiling_length}
 use Rattle.listing.proofs.ceiling_length.Goals as goal
 
 pub returns : goal.returns
-returns c =
-    let a = c.args in
-    (omega (arith, ceiling_length a.lock.now a.number, c.digit_count.ensures.0), omega arith)
+returns c = (omega (arith, ceiling_length c.args.lock.now c.args.number, c.digit_count.ensures.0), omega arith)

@@ -1,37 +1,44 @@
 -- `listing::write_refusal` meets its contract.
 -- Assumes nothing.
 use Prim.Native.Nat.{ℕ}
-use mathlib.Core.List.{List, ◌++◌}
+use Rattle.std.proofs.Common.{rules}
 use Rattle.text.specs.Bytes.{bytes}
-use Rattle.writer.proofs.Written.{Left, left_start, left_as, left_room, left_more, left_last}
+use Rattle.text.specs.Decimal.{digits_of}
+use Rattle.writer.specs.declared.Writer.{Writer}
+use Rattle.writer.specs.Code.Written.{Room, Wrote}
+use Rattle.writer.proofs.Written.{Left, left_all, left_room, left_more, left_last, begun_room, begun_wrote}
 use Rattle.listing.specs.Listing.{refused_line}
-use Rattle.listing.proofs.Lines.{closed, last_two, refused_pieces}
+use Rattle.listing.proofs.Lines.{closed, last_two, two_pieces, refused_pieces}
 use Rattle.listing.proofs.write_refusal.Goals as goal
-use Rattle.listing.proofs.write_refusal.Goals.{After-slice_known-3-1, After-write_last_two-arg-1, After-write_word_field-arg-3-1, After-write_word_field-next, Start}
 
-abbrev whole : Start → List ℕ
-whole s = refused_line s.args.number s.args.place
+-- what is left behind each field
+module _ (n k : ℕ) {w a : Writer} (room : Room (refused_line n k) w) (word : Wrote (closed (bytes "refused") 9) w a) where
+  behind_word : Left (refused_line n k) w (last_two n k) a
+  behind_word = left_more (refused_pieces n k) (left_all room) word
 
-abbrev numbers : Start → List ℕ
-numbers s = last_two s.args.number s.args.place
+  behind_number : {b : Writer} → Wrote (closed (digits_of n) 9) a b → Left (refused_line n k) w (closed (digits_of k) 10) b
+  behind_number number = left_more (two_pieces n k) behind_word number
 
-start : (s : Start) → Left s.args.at (whole s) s.args.out.now s.args.at (closed (bytes "refused") 9 ++ numbers s) s.args.out.now
-start s = left_as (refused_pieces s.args.number s.args.place) (left_start s.args.at (whole s) s.args.out.now s.requires)
-
-behind_word : (c : After-write_word_field-next) →
-    Left c.args.at (whole (goal.at.After-write_word_field-next c).Start) c.args.out.now c.write_word_field-next.result (numbers (goal.at.After-write_word_field-next c).Start) c.write_word_field-next.new.out
+pub word_field-requires : goal.word_field-requires
 unfolding bytes
-behind_word c =
-    left_more (closed (bytes "refused") 9) (numbers (goal.at.After-write_word_field-next c).Start) (start (goal.at.After-write_word_field-next c).Start) c.write_word_field-next.ensures
+word_field-requires c = left_room _ (refused_pieces c.args.number c.args.place) (left_all (begun_room c.new-w.ensures.begun c.requires))
 
-pub write_word_field-next-requires : goal.write_word_field-next-requires
+pub number_field-requires : goal.number_field-requires
 unfolding bytes
-write_word_field-next-requires c =
-    left_room (closed (bytes "refused") 9) (numbers (goal.at.write_word_field-next-requires c).Start) (start (goal.at.write_word_field-next-requires c).Start)
+number_field-requires c =
+    let a = c.args in
+    left_room _ (two_pieces a.number a.place) (behind_word a.number a.place (begun_room c.new-w.ensures.begun c.requires) c.word_field.ensures)
 
-pub write_last_two-requires : goal.write_last_two-requires
-write_last_two-requires c = (behind_word (goal.at.write_last_two-requires c).After-write_word_field-next).room
+pub number_field-requires-2 : goal.number_field-requires-2
+unfolding bytes
+number_field-requires-2 c =
+    let a = c.args in
+    (behind_number a.number a.place (begun_room c.new-w.ensures.begun c.requires) c.word_field.ensures c.number_field.ensures).room
 
 pub returns : goal.returns
+unfolding bytes
 returns c =
-    left_last (behind_word (goal.at.returns c).After-write_word_field-next) c.write_last_two.ensures
+    let a = c.args in
+    let left = behind_number a.number a.place (begun_room c.new-w.ensures.begun c.requires) c.word_field.ensures c.number_field.ensures in
+    let all : Wrote (refused_line a.number a.place) c.new-w.result c.number_field-2.new.self = left_last left c.number_field-2.ensures in
+    begun_wrote c.new-w.ensures.begun all (search rules)

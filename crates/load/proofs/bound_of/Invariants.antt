@@ -5,7 +5,7 @@ use Rattle.load.proofs.BoundBy.{BestBy}
 use Rattle.load.proofs.bound_of.Given as goal
 
 abbrev pub invariant-loop-t : goal.invariant-loop-t
-invariant-loop-t l = BestBy l.periods l.sums l.n l.s l.period l.own l.last l.best l.wait
+invariant-loop-t l = BestBy l.rows l.s l.period l.own l.last l.best l.found
 
 abbrev pub decreases-loop-t : goal.decreases-loop-t
 decreases-loop-t l = l.period - l.last

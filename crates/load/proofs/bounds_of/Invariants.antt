@@ -1,6 +1,6 @@
 -- `load::bounds_of` meets its contract. The invariant: the first s places hold their rows' bounds, and the row at the place s is blocked as `blocking` says.
 -- Assumes nothing.
-use Prim.Native.Nat.{◌-◌, ◌≤◌}
+use Prim.Native.Nat.{◌≤◌}
 use mathlib.Core.Path.{◌≡◌}
 use lib.ListN.{take}
 use Rattle.least.specs.Lists.{pad}
@@ -12,7 +12,4 @@ use Rattle.load.proofs.RowsBy.{blocking_at}
 use Rattle.load.proofs.bounds_of.Given as goal
 
 abbrev pub invariant-loop-s : goal.invariant-loop-s
-invariant-loop-s l = (l.bounds ≡ pad 16 no_frac (take l.s (bounds_of (rows_by l.periods l.sums l.holdings l.n)))) × (l.blocking ≡ blocking_at l.periods l.sums l.holdings l.n l.s) × (l.s ≤ l.n) × (l.blocking ≤ number_limit)
-
-abbrev pub decreases-loop-s : goal.decreases-loop-s
-decreases-loop-s l = l.n - l.s
+invariant-loop-s l = (l.bounds ≡ pad 16 no_frac (take l.s (bounds_of (rows_by l.columns)))) × (l.blocking ≡ blocking_at l.columns l.s) × (l.blocking ≤ number_limit)

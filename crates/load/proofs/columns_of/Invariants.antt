@@ -1,6 +1,6 @@
 -- `load::columns_of` meets its contract: each turn fills one place of the three columns.
 -- Assumes nothing.
-use Prim.Native.Nat.{ℕ, ◌-◌}
+use Prim.Native.Nat.{ℕ}
 use lib.ListN.{get_or}
 use Rattle.least.proofs.Fill.{Filled}
 use Rattle.load.specs.declared.Rows.{Rows}
@@ -19,7 +19,4 @@ abbrev pub X : Rows → ℕ → ℕ
 X rows k = (get_or rows.rows k no_row).holding
 
 abbrev pub invariant-loop-k : goal.invariant-loop-k
-invariant-loop-k l = Filled 0 (P l.rows) 16 l.periods l.k × Filled 0 (C l.rows) 16 l.sums l.k × Filled 0 (X l.rows) 16 l.holdings l.k
-
-abbrev pub decreases-loop-k : goal.decreases-loop-k
-decreases-loop-k l = l.n - l.k
+invariant-loop-k l = Filled 0 (P l.rows) 16 l.periods l.k × Filled 0 (C l.rows) 16 l.costs l.k × Filled 0 (X l.rows) 16 l.holdings l.k

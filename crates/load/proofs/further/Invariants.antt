@@ -5,7 +5,7 @@ use Rattle.load.specs.Code.ByColumn.{LowerIs}
 use Rattle.load.proofs.further.Given as goal
 
 abbrev pub invariant-loop-m : goal.invariant-loop-m
-invariant-loop-m l = LowerIs l.periods l.sums l.n l.s l.period l.own l.initial.best l.best × (l.from + l.m * l.stride ≤ l.period)
+invariant-loop-m l = LowerIs l.rows l.s l.period l.own l.here l.best × (l.here.den + l.m * l.stride ≤ l.period)
 
 abbrev pub decreases-loop-m : goal.decreases-loop-m
 decreases-loop-m l = l.m

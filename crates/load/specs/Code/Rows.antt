@@ -2,7 +2,7 @@
 --   FineRows rows       == at most sixteen rows, each with P and Q from 1 to the limit of numbers, and X up to it
 --   ColumnsAre rows c   == c holds the numbers of the rows, place by place
 --   InRange rows        == rows that pass question 12
---   FineBounds bounds n == the first n are fractions of numbers within the limit
+--   FineBounds bounds   == they are fractions of numbers within the limit
 -- Assumes nothing.
 use Rattle.std.specs.Prelude.{ℕ, ◌+◌, ◌≤◌, ◌<◌, ◌≡◌, true, List, length, get_or}
 use Rattle.least.specs.declared.Frac.{Frac}
@@ -10,7 +10,7 @@ use Rattle.least.specs.Fraction.{frac}
 use Rattle.refusal.specs.Limits.{number_limit, row_limit}
 use Rattle.load.specs.declared.Row.{Row}
 use Rattle.load.specs.declared.Rows.{Rows}
-use Rattle.load.specs.declared.RowColumns.{RowColumns}
+use Rattle.load.specs.declared.columns.RowColumns.{RowColumns}
 use Rattle.load.specs.Load.{row, row_sum}
 use Rattle.load.specs.Weigh.{row_in_range}
 
@@ -34,8 +34,9 @@ pub record FineRows (rows : Rows) : Type 0 where
   pub each : (k : ℕ) → k < rows.count → FineRow (get_or rows.rows k no_row)
 
 pub record ColumnsAre (rows : Rows) (c : RowColumns) : Type 0 where
-  pub periods : (k : ℕ) → k < rows.count → get_or c.periods k 0 ≡ (get_or rows.rows k no_row).period
-  pub sums : (k : ℕ) → k < rows.count → get_or c.sums k 0 ≡ row_sum (get_or rows.rows k no_row)
+  pub count : c.workload.count ≡ rows.count
+  pub periods : (k : ℕ) → k < rows.count → get_or c.workload.periods k 0 ≡ (get_or rows.rows k no_row).period
+  pub costs : (k : ℕ) → k < rows.count → get_or c.workload.costs k 0 ≡ row_sum (get_or rows.rows k no_row)
   pub holdings : (k : ℕ) → k < rows.count → get_or c.holdings k 0 ≡ (get_or rows.rows k no_row).holding
 
 pub record InRange (rows : Rows) : Type 0 where
@@ -49,6 +50,5 @@ pub record FineBound (b : Frac) : Type 0 where
   pub num_most : b.num ≤ number_limit
   pub den_most : b.den ≤ number_limit
 
-pub record FineBounds (bounds : List Frac) (n : ℕ) : Type 0 where
-  pub room : n ≤ length bounds
-  pub each : (k : ℕ) → k < n → FineBound (get_or bounds k no_frac)
+pub record FineBounds (bounds : List Frac) : Type 0 where
+  pub each : (k : ℕ) → k < length bounds → FineBound (get_or bounds k no_frac)

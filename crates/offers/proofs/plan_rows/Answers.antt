@@ -1,134 +1,100 @@
--- `offers::plan_rows` meets its contract: the first no among questions 10 and 11, or the rows of the choice that was selected. The invariants: the shares so far
--- and those to come are all shares; and each turn gathers the kept list of one part.
+-- `offers::plan_rows` meets its contract.
 -- Assumes nothing.
-use Prim.Native.Nat.{ℕ, ◌<◌}
+use Prim.Native.Nat.{ℕ, ◌≤◌, ◌<◌}
 use native.Mathlib.Numerals.{add-one}
 use native.Mathlib.Omega.{arith}
-use borrow.Author.Tests.{not-true, not-false}
-use mathlib.Core.Path.{◌≡◌, sym, ap, ◌∙◌}
-use lib.ListN.{length, length-replicate}
-use Rattle.refusal.specs.declared.Refusal.TheVariants.{NoBudget}
-use Rattle.refusal.specs.Code.Limits.{offer_places}
+use mathlib.Core.Path.{◌≡◌, sym, ap, subst, ◌∙◌}
+use lib.ListN.{length}
+use Rattle.std.specs.Prelude.{Ok}
+use Rattle.task_set.specs.Code.Tasks.{tasks_of}
+use Rattle.task_set.specs.Code.Partition.{partition_of}
+use Rattle.utilisation.specs.Code.Utilisation.{share_in}
 use Rattle.candidates.specs.declared.Kept.{Kept}
-use Rattle.candidates.specs.Candidates.{kept_answer}
-use Rattle.offers.specs.Code.Gathered.{list_in, OfferedAt}
-use Rattle.offers.specs.Code.Least.{no_rows}
-use Rattle.offers.proofs.Gathering.{list_most, gather_start, gather_step}
+use Rattle.candidates.specs.Candidates.{kept_list, kept_answer}
+use Rattle.reader.specs.declared.PartRead.{PartRead}
+use Rattle.offers.specs.Code.Gathered.{part_in, list_in, StoredAt, OfferedAt}
+use Rattle.offers.proofs.Gathering.{parts_long, part_read, part_fine, list_most, gather_room, gather_step}
 use Rattle.offers.proofs.Over.{shares_next, shares_over}
 use Rattle.offers.proofs.Rows.{offers_fine}
 use Rattle.offers.proofs.Choosing.{no_budget, none_found, rows_found}
 use Rattle.offers.proofs.plan_rows.Goals as goal
-use Rattle.offers.proofs.plan_rows.Goals.{After-counts-1, After-holdings-1, After-holdings-in-loop-k-1, After-kept_of-kept, After-loop-k, After-no_rows, After-no_rows-then-not-choice, After-part-1, After-rows_by-rows, Else-share-gt-SCALE, In-loop-k, Start, Then-count-eq0}
-
-pub loop-i-init : goal.loop-i-init
-loop-i-init c = (omega arith, omega arith, omega arith)
-
-pub offset_bounds-f-i : goal.offset_bounds-f-i
-offset_bounds-f-i c = omega (arith, c.requires.0.few)
-
-pub bounds-f-i : goal.bounds-f-i
-bounds-f-i c = omega (arith, c.requires.0.few)
+use Rattle.offers.proofs.plan_rows.Goals.{After-kept_of-kept, After-loop-k}
 
 pub share_of-share-requires : goal.share_of-share-requires
-share_of-share-requires c = c.requires.0.fine c.loop-i.i c.loop-i-test.true
+share_of-share-requires c = (part_fine c.args.f.now c.requires.0 c.loop-p.p-index c.loop-p-test.true).0
 
 pub overflow_add-share : goal.overflow_add-share
-overflow_add-share c = let l = c.loop-i-test.true in omega (arith, c.share_of-share.ensures.most, c.loop-i.invariant.1, c.requires.0.few)
+overflow_add-share c = omega (arith, c.share_of-share.ensures.most, c.loop-p.invariant.most, c.loop-p-test.true, parts_long c.args.f.now c.requires.0, c.requires.0.few)
 
-pub overflow_add-i : goal.overflow_add-i
-overflow_add-i c = let l = c.loop-i-test.true in omega (arith, c.requires.0.few)
+pub loop-p-preserved : goal.loop-p-preserved
+loop-p-preserved c =
+    let f = c.args.f.now in
+    let at = c.loop-p in
+    let k : at.p-index < f.count = omega (arith, c.loop-p-test.true, parts_long f c.requires.0) in
+    let value = c.share_of-share.ensures.value ∙ ap (λ (p : PartRead). share_in (tasks_of p.part)) (part_read f c.requires.0 at.p-index c.loop-p-test.true) in
+    record {
+      left = rw add-one (omega (arith, at.invariant.left, shares_next f at.p-index k, value));
+      most = omega (arith, at.invariant.most, c.share_of-share.ensures.most);
+    }
 
-pub loop-i-smaller : goal.loop-i-smaller
-loop-i-smaller c = let l = c.loop-i-test.true in omega arith
-
-pub loop-i-preserved : goal.loop-i-preserved
-loop-i-preserved c =
-    let f = c.args.f in
-    let at = c.loop-i in
-    let l = c.loop-i-test.true in
-    let one = c.share_of-share.ensures in
-    (rw add-one (omega (arith, at.invariant.0, shares_next f at.i l, one.value)), omega (arith, at.invariant.1, one.most), omega arith)
-
-pub over_rows-requires : goal.over_rows-requires
-over_rows-requires c =
-    let l = c.loop-i in
-    (c.requires.0, shares_over c.args.f l.share l.i (omega (arith, l.invariant.2, c.loop-i-test.false)) l.invariant.0 c.if-share-gt-SCALE.true)
-
-pub returns-then-share-gt-SCALE : goal.returns-then-share-gt-SCALE
-returns-then-share-gt-SCALE c = c.over_rows.ensures
-
--- where it begins, seen from the place behind the first test
-abbrev start : Else-share-gt-SCALE → Start
-start e = (goal.at.Else-share-gt-SCALE e).Start
-
-pub loop-k-init : goal.loop-k-init
-loop-k-init c = (gather_start (start c).args.f (start c).requires.0 _ _ _ _ (length-replicate {A = ℕ} 16 0) (length-replicate {A = ℕ} 16 0), length-replicate {A = ℕ} offer_places 0, length-replicate {A = ℕ} offer_places 0)
-
-pub offset_bounds-f-k : goal.offset_bounds-f-k
-offset_bounds-f-k c = omega (arith, (start (goal.at.offset_bounds-f-k c).Else-share-gt-SCALE).requires.0.few)
-
-pub bounds-f-k : goal.bounds-f-k
-bounds-f-k c = omega (arith, (start (goal.at.bounds-f-k c).Else-share-gt-SCALE).requires.0.few)
+pub refusal_of_over-requires : goal.refusal_of_over-requires
+refusal_of_over-requires c =
+    let l = c.loop-p in
+    (c.requires.0, shares_over c.args.f.now l.share l.p-index (omega (arith, c.loop-p-test.false, parts_long c.args.f.now c.requires.0)) l.invariant.left c.if-share-gt-SCALE.true)
 
 pub kept_of-kept-requires : goal.kept_of-kept-requires
-kept_of-kept-requires c =
-    let s = start (goal.at.kept_of-kept-requires c).Else-share-gt-SCALE in
-    let at = c.loop-k in
-    let l = c.loop-k-test.true in
-    (s.requires.0.fine at.k l, s.requires.0.period_some at.k l, s.requires.0.period_most at.k l)
+kept_of-kept-requires c = part_fine c.args.f.now c.requires.0 c.loop-k.k c.loop-k-test.true
 
--- the count is that of the kept list
-count : (c : After-kept_of-kept) → c.kept_of-kept.result.count ≡ length (list_in (start (goal.at.After-kept_of-kept c).Else-share-gt-SCALE).args.f c.loop-k.k)
+-- the kept list is that of the part at the place k, and so is its count
+kept : (c : After-kept_of-kept) → c.kept_of-kept.result ≡ kept_answer (list_in c.args.f.now c.loop-k.k)
+kept c =
+    c.kept_of-kept.ensures
+    ∙ ap (λ (p : PartRead). kept_answer (kept_list (partition_of p.part))) (part_read c.args.f.now c.requires.0 c.loop-k.k c.loop-k-test.true)
+
+count : (c : After-kept_of-kept) → c.kept_of-kept.result.count ≡ length (list_in c.args.f.now c.loop-k.k)
 unfolding kept_answer
-count c = ap (λ (x : Kept). x.count) c.kept_of-kept.ensures
+count c = ap (λ (x : Kept). x.count) (kept c)
 
-pub overflow_add-number : goal.overflow_add-number
-overflow_add-number c = omega (arith, (start (goal.at.overflow_add-number c).Else-share-gt-SCALE).requires.0.few, c.loop-k.invariant.0.most)
+within : (c : After-kept_of-kept) → c.loop-k.k < c.args.f.now.count
+within c = omega (arith, c.loop-k-test.true, parts_long c.args.f.now c.requires.0)
 
-pub returns-then-count-eq0 : goal.returns-then-count-eq0
-returns-then-count-eq0 c =
-    let s = start (goal.at.returns-then-count-eq0 c).Else-share-gt-SCALE in
-    let at = c.loop-k in
-    c.no_rows.ensures
-    ∙ ap (λ (x : ℕ). no_rows (NoBudget x)) (add-one at.k)
-    ∙ no_budget s.args.f s.requires.0 at.k c.loop-k-test.true (sym (count (goal.at.returns-then-count-eq0 c).After-kept_of-kept) ∙ c.if-count-eq0.true) (λ j h. (at.invariant.0.each j h).some)
+pub returns-then-kept-eq0 : goal.returns-then-kept-eq0
+returns-then-kept-eq0 c =
+    let b = (goal.at.returns-then-kept-eq0 c).After-kept_of-kept in
+    no_budget c.args.f.now c.requires.0 c.loop-k.k (within b) (sym (count b) ∙ c.if-kept-eq0.true) (λ j h. (c.loop-k.invariant.gathered j h).some)
 
 pub store-requires : goal.store-requires
 store-requires c =
-    let s = start (goal.at.store-requires c).Else-share-gt-SCALE in
-    let at = c.loop-k in
-    let l = c.loop-k-test.true in
-    (omega (arith, s.requires.0.few), omega (arith, count (goal.at.store-requires c).After-kept_of-kept, list_most s.args.f s.requires.0 at.k l), at.invariant.1, at.invariant.2)
+    let b = (goal.at.store-requires c).After-kept_of-kept in
+    (omega (arith, within b, c.requires.0.few), omega (arith, count b, list_most c.args.f.now c.requires.0 c.loop-k.k (within b)), c.loop-k.invariant.room)
 
 pub loop-k-preserved : goal.loop-k-preserved
 loop-k-preserved c =
-    let s = start (goal.at.loop-k-preserved c).Else-share-gt-SCALE in
+    let b = (goal.at.loop-k-preserved c).After-kept_of-kept in
+    let f = c.args.f.now in
     let at = c.loop-k in
-    let kept = c.kept_of-kept in
-    let stored = c.store.ensures in
-    (gather_step s.args.f s.requires.0 at.periods at.counts at.budgets at.holdings _ _ at.k kept.result at.invariant.0 c.loop-k-test.true kept.ensures (let n = c.if-count-eq0.false in let m = count (goal.at.loop-k-preserved c).After-kept_of-kept in omega arith) stored.0 stored.1, stored.0.room ∙ at.invariant.1, stored.1.room ∙ at.invariant.2)
+    let some : 1 ≤ length (list_in f at.k) = omega (arith, count b, c.if-kept-eq0.false) in
+    let stored : StoredAt at.k (part_in f at.k).period c.kept_of-kept.result at.offers c.store.new.offers =
+    subst (λ (p : PartRead). StoredAt at.k p.part.period c.kept_of-kept.result at.offers c.store.new.offers) (part_read f c.requires.0 at.k c.loop-k-test.true) c.store.ensures in
+    record {
+      room = gather_room f c.requires.0 at.k c.kept_of-kept.result at.invariant.room (within b) (kept b) some stored;
+      count = stored.count ∙ at.invariant.count;
+      gathered = gather_step f c.requires.0 at.k c.kept_of-kept.result at.invariant.room (within b) (kept b) some stored at.invariant.gathered;
+    }
 
 -- behind the loop all parts are gathered
-abbrev begin : After-loop-k → Start
-begin e = start (goal.at.After-loop-k e).Else-share-gt-SCALE
+all : (c : After-loop-k) → (k : ℕ) → k < c.args.f.now.count → OfferedAt c.args.f.now c.loop-k.offers k
+all c k h = c.loop-k.invariant.gathered k (omega (arith, c.loop-k-test.false, parts_long c.args.f.now c.requires.0))
 
-all : (e : After-loop-k) → let g = e.loop-k in (k : ℕ) → k < (begin e).args.f.count → OfferedAt (begin e).args.f g.periods g.counts g.budgets g.holdings k
-all e k h = e.loop-k.invariant.0.each k (omega arith)
+pub select-requires : goal.select-requires
+select-requires c =
+    offers_fine c.args.f.now c.requires.0 c.loop-k.offers c.loop-k.invariant.count (all (goal.at.select-requires c).After-loop-k) c.requires.1
 
-pub select-choice-requires : goal.select-choice-requires
-select-choice-requires c =
-    let g = c.loop-k in
-    offers_fine (begin (goal.at.select-choice-requires c).After-loop-k).args.f (begin (goal.at.select-choice-requires c).After-loop-k).requires.0 g.periods g.counts g.budgets g.holdings (all (goal.at.select-choice-requires c).After-loop-k) (begin (goal.at.select-choice-requires c).After-loop-k).requires.1
-
-pub returns-then-not-choice : goal.returns-then-not-choice
-returns-then-not-choice c =
-    let g = c.loop-k in
-    c.no_rows-then-not-choice.ensures ∙ none_found (begin (goal.at.returns-then-not-choice c).After-loop-k).args.f (begin (goal.at.returns-then-not-choice c).After-loop-k).requires.0 g.periods g.counts g.budgets g.holdings (all (goal.at.returns-then-not-choice c).After-loop-k) c.select-choice.result c.select-choice.ensures (not-true _ c.if-not-choice.true)
-
-pub rows_by-rows-requires : goal.rows_by-rows-requires
-rows_by-rows-requires c = c.select-choice.ensures.fine (not-false _ c.if-not-choice.false)
+pub returns-in_default : goal.returns-in_default
+returns-in_default c =
+    none_found c.args.f.now c.requires.0 c.loop-k.offers c.loop-k.invariant.count (all (goal.at.returns-in_default c).After-loop-k) c.select.result c.select.ensures c.in_default.is
 
 pub returns : goal.returns
 returns c =
-    let g = c.loop-k in
-    rows_found (begin (goal.at.returns c).After-loop-k).args.f (begin (goal.at.returns c).After-loop-k).requires.0 g.periods g.counts g.budgets g.holdings (all (goal.at.returns c).After-loop-k) c.select-choice.result c.select-choice.ensures c.rows_by-rows.result (not-false _ c.if-not-choice.false) c.rows_by-rows.ensures
+    ap Ok c.rows_by.ensures
+    ∙ rows_found c.args.f.now c.requires.0 c.loop-k.offers c.loop-k.invariant.count (all (goal.at.returns c).After-loop-k) c.select.result c.select.ensures c.in-Some.chosen c.in-Some.is

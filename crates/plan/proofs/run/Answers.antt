@@ -1,7 +1,7 @@
-use Rattle.std.proofs.Common.{rules, ◌≡◌, ◌≤◌, ◌<◌, length, take, IfSome, OnOk, Ok, Err, ℕ, Result, arith, subst}
+use Rattle.std.proofs.Common.{rules, ◌≡◌, length, take, OnOk, Ok, Err, ℕ, Result, arith}
 use Rattle.std.proofs.lemmas.Result.{on_ok_weaker}
 use Rattle.std.specs.Result.{is_ok}
-use Rattle.std.specs.Io.KnownBytes.{Appends, Consumes, IsAtEnd}
+use Rattle.std.specs.Io.KnownBytes.{Appends}
 use Rattle.plan.proofs.Known.{first_bytes, printed_known}
 use Rattle.plan.proofs.Long.{printed_of-take}
 use Rattle.console.specs.Printed.{printed_of}
@@ -15,11 +15,8 @@ on_ok_as P (Err d) (Err f) e h = tt
 
 pub returns : goal.returns
 returns g c =
-    let n = c.in_ok-n.n in
-    let within : n ≤ length c.read_all.new.buf = search rules in
-    let brought : Consumes (g.R.Read.remaining c.args.input.now) (g.R.Read.remaining c.read_all.new.input) (take n c.read_all.new.buf) = search rules in
-    let end : n < length c.read_all.new.buf → IsAtEnd (g.R.Read.remaining c.read_all.new.input) = search rules in
-    let room : length c.read_all.new.buf ≡ 32769 = search rules in
-    let first = subst (λ (k : ℕ). IfSome (g.R.Read.remaining c.args.input.now) (λ xs. take n c.read_all.new.buf ≡ take k xs)) room (first_bytes _ _ n c.read_all.new.buf within brought end) in
+    let buf = c.read_all.new.buf in
+    let room : length buf ≡ 32769 = search rules in
+    let first = rw room at (first_bytes (g.R.Read.remaining c.args.input.now) (g.R.Read.remaining c.read_all.new.input) c.in_ok-n.n buf (search rules) (search rules) (search rules)) in
     let written = on_ok_as _ c.print_plan.result c.map_err-2.result c.map_err-2.ensures.variant c.print_plan.ensures in
     on_ok_weaker _ (printed_known _ (Appends (g.W.Write.contents c.args.out.now) (g.W.Write.contents c.print_plan.new.out)) printed_of (take 32769) _ printed_of-take first) written

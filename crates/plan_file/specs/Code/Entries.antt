@@ -1,15 +1,17 @@
 -- What the reader keeps of the lines above, and what a record enters, as the code has them: names are stretches of the file s.
 --   names_of s ns                             == the names that the struct `Names` holds
---   place_among name ns                       == the place of a name among names, from 0; their count where it is not among them
---   entry_of s n seen r                       == what the record r on line n enters: the first no of its questions, or its numbers
+--   place_in name ns                          == the place of a name among names, from 0
+--   place_among name ns                       == the same; the place behind them where it is not among them
+--   entry_of s n seen r                       == what the record r on line n enters, its numbers; or the first no of its questions
 --   seen_part, seen_task, seen_lock, seen_end == what has been seen behind such a line
 --   FineNames, FineSeen                       == counts within the places that there are
 --   NumbersOf s ns codes                      == the array `codes` has the numbers of these names, and each is a name
 -- Assumes nothing.
-use Rattle.std.specs.Prelude.{ℕ, zero, suc, ◌+◌, ◌≤◌, ◌≡◌, Bool, true, false, cond, not, ◌&&◌, List, [], ◌∷◌, map, leb, eqb, length, take, set, get_or}
+use Rattle.std.specs.Prelude.{ℕ, zero, suc, ◌+◌, ◌≤◌, ◌≡◌, Bool, true, false, cond, not, ◌&&◌, List, [], ◌∷◌, map, leb, eqb, length, take, set, get_or, Option, Result, Ok, Err, position}
 use Rattle.least.specs.Lists.{pad, every}
 use Rattle.refusal.specs.declared.Outcome.{Outcome}
 use Rattle.refusal.specs.declared.Outcome.TheVariants.{Done, Refused}
+use Rattle.refusal.specs.declared.Refusal.{Refusal}
 use Rattle.refusal.specs.declared.Refusal.TheVariants.{Misplaced, BadRecord}
 use Rattle.refusal.specs.Limits.{lock_limit}
 use Rattle.refusal.specs.Questions.{ask, first_no}
@@ -18,16 +20,14 @@ use Rattle.stretch.specs.Stretch.{bytes_of}
 use Rattle.text.specs.Bytes.{same}
 use Rattle.text.specs.Decimal.{value_of}
 use Rattle.task_set.specs.declared.Task.{Task as TaskNumbers}
-use Rattle.fields.specs.Fields.{is_name, is_number}
-use Rattle.codes.specs.Code.Codes.{code_if}
+use Rattle.fields.specs.Fields.{is_name}
+use Rattle.codes.specs.Code.Codes.{code_of}
 use Rattle.records.specs.declared.Shape.{Shape}
 use Rattle.records.specs.declared.Shape.TheVariants.{Part as PartShape, Task as TaskShape, Lock as LockShape, End as EndShape, Unknown}
 use Rattle.plan_file.specs.declared.Names.{Names}
 use Rattle.plan_file.specs.declared.Seen.{Seen}
-use Rattle.plan_file.specs.declared.Times.{Times}
-use Rattle.plan_file.specs.declared.Times.TheVariants.{Are, Malformed}
 use Rattle.plan_file.specs.declared.Entry.{Entry}
-use Rattle.plan_file.specs.declared.Entry.TheVariants.{Part, Task, Lock, End, Refused as RefusedEntry}
+use Rattle.plan_file.specs.declared.Entry.TheVariants.{Part, Task, Lock, End}
 use Rattle.plan_file.specs.Reading.{part_questions, task_questions, lock_questions}
 use Rattle.plan_file.specs.Stretches.{no_span}
 
@@ -44,8 +44,11 @@ pub record FineNames (ns : Names) : Type 0 where
 -- the numbers of these names, for each its place
 pub record NumbersOf (s : List ℕ) (ns : Names) (codes : List ℕ) : Type 0 where
   pub room : length codes ≡ 16
-  pub are : take ns.count codes ≡ map code_if (names_of s ns)
+  pub are : take ns.count codes ≡ map code_of (names_of s ns)
   pub good : every is_name (names_of s ns) ≡ true
+
+abbrev pub place_in : List ℕ → List (List ℕ) → Option ℕ
+place_in name ns = position (same name) ns
 
 unfoldable pub place_among : List ℕ → List (List ℕ) → ℕ
 place_among name [] = zero
@@ -58,19 +61,15 @@ with_name ns p = record { count = ns.count + 1; span = set ns.span ns.count p }
 unfoldable pub with_lock_name : Names → Span → ℕ → Names
 with_lock_name ns p j = cond (eqb j ns.count) (with_name ns p) ns
 
--- the three numbers of a task
-unfoldable pub times_in : List ℕ → List ℕ → List ℕ → Times
-times_in T C D = cond (is_number T && (is_number C && is_number D)) (Are (value_of T) (value_of C) (value_of D)) Malformed
-
 -- an entry, if every question has the answer yes
-unfoldable pub entry_if : Outcome → Entry → Entry
-entry_if Done e = e
-entry_if (Refused r) e = RefusedEntry r
+unfoldable pub entry_if : Outcome → Entry → Result Entry Refusal
+entry_if Done e = Ok e
+entry_if (Refused r) e = Err r
 
-unfoldable pub part_entry : List ℕ → ℕ → Bool → Names → Span → Span → Entry
+unfoldable pub part_entry : List ℕ → ℕ → Bool → Names → Span → Span → Result Entry Refusal
 part_entry s n allowed parts name P = entry_if (first_no (part_questions n allowed (names_of s parts) (bytes_of s name) (bytes_of s P))) (Part name (value_of (bytes_of s P)))
 
-unfoldable pub task_entry : List ℕ → ℕ → Bool → Names → Span → Span → Span → Span → Entry
+unfoldable pub task_entry : List ℕ → ℕ → Bool → Names → Span → Span → Span → Span → Result Entry Refusal
 task_entry s n allowed tasks name T C D =
     entry_if (first_no (task_questions n allowed (names_of s tasks) (bytes_of s name) (bytes_of s T) (bytes_of s C) (bytes_of s D)))
     (Task name (value_of (bytes_of s T)) (value_of (bytes_of s C)) (value_of (bytes_of s D)))
@@ -79,21 +78,21 @@ task_entry s n allowed tasks name T C D =
 unfoldable pub use_at : TaskNumbers → ℕ → ℕ
 use_at t j = get_or t.uses j 0
 
-unfoldable pub lock_entry : List ℕ → ℕ → Bool → TaskNumbers → Names → Span → Span → Entry
+unfoldable pub lock_entry : List ℕ → ℕ → Bool → TaskNumbers → Names → Span → Span → Result Entry Refusal
 lock_entry s n allowed last locks name c =
     let j = place_among (bytes_of s name) (names_of s locks) in
     entry_if (first_no (lock_questions n allowed (leb 1 (use_at last j)) (names_of s locks) last.cost (bytes_of s name) (bytes_of s c)))
     (Lock name j (value_of (bytes_of s c)))
 
-unfoldable pub end_entry : ℕ → Bool → Entry
+unfoldable pub end_entry : ℕ → Bool → Result Entry Refusal
 end_entry n allowed = entry_if (first_no (ask (Misplaced n) allowed ∷ [])) End
 
-unfoldable pub entry_of : List ℕ → ℕ → Seen → Shape → Entry
+unfoldable pub entry_of : List ℕ → ℕ → Seen → Shape → Result Entry Refusal
 entry_of s n seen (PartShape name P) = part_entry s n (not seen.ended && not seen.fresh) seen.parts name P
 entry_of s n seen (TaskShape name T C D) = task_entry s n (not seen.ended && leb 1 seen.parts.count) seen.tasks name T C D
 entry_of s n seen (LockShape name c) = lock_entry s n (not seen.ended && leb 1 seen.tasks.count) seen.last seen.locks name c
 entry_of s n seen EndShape = end_entry n (not seen.ended && (not seen.fresh && leb 1 seen.parts.count))
-entry_of s n seen Unknown = RefusedEntry (BadRecord n)
+entry_of s n seen Unknown = Err (BadRecord n)
 
 pub record FineSeen (seen : Seen) : Type 0 where
   pub parts : FineNames seen.parts

@@ -1,8 +1,7 @@
--- `planning::chart` meets its contract: the chart is asked for.
+-- `planning::chart` meets its contract.
 -- Assumes nothing.
-use Rattle.planning.specs.Code.Chosen.{answer_of}
+use Rattle.answers.proofs.Handing.{handed_over}
 use Rattle.planning.proofs.chart.Goals as goal
 
 pub returns : goal.returns
-unfolding answer_of
-returns c = c.answer.ensures
+returns c = handed_over c.charted.ensures c.from.ensures

@@ -1,8 +1,7 @@
--- `planning::plan` meets its contract: the listing is asked for.
+-- `planning::plan` meets its contract.
 -- Assumes nothing.
-use Rattle.planning.specs.Code.Chosen.{answer_of}
+use Rattle.answers.proofs.Handing.{handed_over}
 use Rattle.planning.proofs.plan.Goals as goal
 
 pub returns : goal.returns
-unfolding answer_of
-returns c = c.answer.ensures
+returns c = handed_over c.listed.ensures c.from.ensures

@@ -4,10 +4,10 @@ use Rattle.refusal.specs.Questions.{first_no}
 use Rattle.plan_file.specs.Code.Entries.{end_entry, entry_if}
 use Rattle.questions.proofs.ask_end.Goals as goal
 
-pub returns-then-not-allowed : goal.returns-then-not-allowed
+pub returns-then-allowed : goal.returns-then-allowed
 unfolding end_entry entry_if first_no
-returns-then-not-allowed c = simp c.if-not-allowed.true
+returns-then-allowed c = simp c.if-allowed.true
 
-pub returns : goal.returns
+pub returns-else-allowed : goal.returns-else-allowed
 unfolding end_entry entry_if first_no
-returns c = simp c.if-not-allowed.false
+returns-else-allowed c = simp c.if-allowed.false

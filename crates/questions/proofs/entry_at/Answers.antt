@@ -1,33 +1,41 @@
 -- `questions::entry_at` meets its contract: each kind of record has its own function.
 -- Assumes nothing.
+use mathlib.Core.Path.{◌≡◌}
+use mathlib.Core.Bool.{not, ◌&&◌}
+use lib.Dec.{leb}
+use native.Mathlib.Omega.{arith}
+use Rattle.std.proofs.lemmas.Grind.{common_steps}
+use Rattle.std.proofs.Common.{rules}
 use Rattle.plan_file.specs.Code.Entries.{entry_of}
 use Rattle.questions.proofs.entry_at.Goals as goal
 
-pub ask_task-requires : goal.ask_task-requires
-ask_task-requires c =
-    let f = rw c.in-Task.is at c.requires.3 in
-    (c.requires.0.tasks, c.requires.1, f.0, f.1, f.2, f.3)
-
-pub ask_lock-requires : goal.ask_lock-requires
-ask_lock-requires c =
-    let f = rw c.in-Lock.is at c.requires.3 in
-    (c.requires.0.locks, c.requires.0.few_locks, c.requires.2, f.0, f.1)
-
-pub returns-in-Part : goal.returns-in-Part
+pub returns-after-open : goal.returns-after-open
 unfolding entry_of
-returns-in-Part c = simp c.in-Part.is (rw c.both.ensures at c.ask_part.ensures)
+returns-after-open c =
+    let a = c.args.seen.now in
+    let e : c.if-open.ask_part ≡ (not a.ended && not a.fresh) = search rules in
+    simp c.in-Part.is (rw e at c.ask_part.ensures)
 
-pub returns-in-Task : goal.returns-in-Task
+pub returns-after-open-2 : goal.returns-after-open-2
 unfolding entry_of
-returns-in-Task c = simp c.in-Task.is (rw c.both-in-Task.ensures at c.ask_task.ensures)
+returns-after-open-2 c =
+    let a = c.args.seen.now in
+    let e : c.if-open-2.ask_task ≡ (not a.ended && leb 1 a.parts.count) = search rules in
+    simp c.in-Task.is (rw e at c.ask_task.ensures)
 
-pub returns-in-Lock : goal.returns-in-Lock
+pub returns-after-open-3 : goal.returns-after-open-3
 unfolding entry_of
-returns-in-Lock c = simp c.in-Lock.is (rw c.both-in-Lock.ensures at c.ask_lock.ensures)
+returns-after-open-3 c =
+    let a = c.args.seen.now in
+    let e : c.if-open-3.ask_lock ≡ (not a.ended && leb 1 a.tasks.count) = search rules in
+    simp c.in-Lock.is (rw e at c.ask_lock.ensures)
 
-pub returns-in-End : goal.returns-in-End
+pub returns-after-not-seen : goal.returns-after-not-seen
 unfolding entry_of
-returns-in-End c = simp c.in-End.is (rw (c.both-in-End-2.ensures, c.both-in-End.ensures) at c.ask_end.ensures)
+returns-after-not-seen c =
+    let a = c.args.seen.now in
+    let e : c.if-not-seen.ask_end ≡ (not a.ended && (not a.fresh && leb 1 a.parts.count)) = grind (arith, common_steps) in
+    simp c.in-End.is (rw e at c.ask_end.ensures)
 
 pub returns-in-Unknown : goal.returns-in-Unknown
 unfolding entry_of

@@ -4,10 +4,10 @@ use borrow.Author.Tests.{lt-ltb, le-ltb}
 use Rattle.records.specs.Code.Shapes.{end_of}
 use Rattle.records.proofs.end_of.Goals as goal
 
-pub returns-then-k-n : goal.returns-then-k-n
+pub returns-then-k-l : goal.returns-then-k-l
 unfolding end_of
-returns-then-k-n c = simp (lt-ltb _ _ c.if-k-n.true)
+returns-then-k-l c = simp (lt-ltb _ _ c.if-k-l.true)
 
-pub returns : goal.returns
+pub returns-else-k-l : goal.returns-else-k-l
 unfolding end_of
-returns c = simp (le-ltb _ _ c.if-k-n.false)
+returns-else-k-l c = simp (le-ltb _ _ c.if-k-l.false)

@@ -12,8 +12,6 @@ use Rattle.stretch.specs.declared.Span.{Span}
 use Rattle.scan.specs.declared.Scanned.{Scanned}
 use Rattle.records.specs.declared.Shape.{Shape}
 use Rattle.records.specs.declared.Shape.TheVariants.{Part, Task, Lock, End, Unknown}
-use Rattle.records.specs.declared.Word.{Word}
-use Rattle.records.specs.declared.Word.TheVariants.{PartWord, TaskWord, LockWord, EndWord, NoWord}
 
 unfoldable pub up_to : ℕ → ℕ → Span
 up_to from to = record { start = from; len = to - from }
@@ -30,6 +28,13 @@ field l k = up_to (get_or l.tabs.place (k - 1) 0 + 1) (end_of l k)
 -- a position behind a tab is a position
 abbrev pub TabsSmall : Scanned → Type 0
 TabsSmall l = (j : ℕ) → get_or l.tabs.place j 0 < 2 ^ 63
+
+pub data Word : Type 0 where
+  PartWord : Word
+  TaskWord : Word
+  LockWord : Word
+  EndWord : Word
+  NoWord : Word
 
 unfoldable pub word_of : List ℕ → Word
 word_of bs =

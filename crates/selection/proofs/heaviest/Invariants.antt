@@ -1,7 +1,7 @@
 -- `selection::heaviest` meets its contract. The invariant: the bound and the blocking are those of a row before s that reaches the greatest bound so far,
 -- and the row at the place s is blocked as `below` says.
 -- Assumes nothing.
-use Prim.Native.Nat.{◌-◌, ◌≤◌}
+use Prim.Native.Nat.{◌≤◌}
 use mathlib.Core.Path.{◌≡◌}
 use Rattle.refusal.specs.Limits.{number_limit}
 use Rattle.load.specs.Code.ByColumn.{rows_by}
@@ -10,8 +10,4 @@ use Rattle.selection.proofs.Leading.{Ahead}
 use Rattle.selection.proofs.heaviest.Given as goal
 
 abbrev pub invariant-loop-s : goal.invariant-loop-s
-invariant-loop-s l =
-    Ahead (rows_by l.periods l.sums l.holdings l.n) l.s l.bound l.blocking × (l.below ≡ held_before (rows_by l.periods l.sums l.holdings l.n) l.s) × (l.s ≤ l.n) × (l.below ≤ number_limit)
-
-abbrev pub decreases-loop-s : goal.decreases-loop-s
-decreases-loop-s l = l.n - l.s
+invariant-loop-s l = Ahead (rows_by l.columns) l.s l.bound l.blocking × (l.below ≡ held_before (rows_by l.columns) l.s) × (l.below ≤ number_limit)

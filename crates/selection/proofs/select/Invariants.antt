@@ -4,8 +4,8 @@ use Rattle.selection.proofs.Descent.{places_left}
 use Rattle.selection.proofs.Selecting.{Selecting}
 use Rattle.selection.proofs.select.Given as goal
 
-abbrev pub invariant-loop-best : goal.invariant-loop-best
-invariant-loop-best l = Selecting l.periods l.budgets l.holdings l.counts l.n l.places l.best l.sums l.held
+abbrev pub invariant-loop-blocking : goal.invariant-loop-blocking
+invariant-loop-blocking l = Selecting l.offers l.places l.best l.chosen
 
-abbrev pub decreases-loop-best : goal.decreases-loop-best
-decreases-loop-best l = places_left l.counts l.n l.places
+abbrev pub decreases-loop-blocking : goal.decreases-loop-blocking
+decreases-loop-blocking l = places_left l.offers.counts l.offers.count l.places

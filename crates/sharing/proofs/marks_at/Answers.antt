@@ -1,24 +1,27 @@
 -- `sharing::marks_at` meets its contract: each turn fills one place.
 -- Assumes nothing.
 use native.Mathlib.Omega.{arith}
-use mathlib.Core.Path.{◌≡◌, subst}
+use mathlib.Core.Path.{refl, ◌∙◌}
 use mathlib.Core.Bool.{false}
-use Rattle.least.proofs.Fill.{Filled, fill_start, fill_step}
+use lib.ListN.{length-map}
+use Rattle.least.specs.Lists.{pad}
 use Rattle.refusal.specs.Limits.{lock_limit}
-use Rattle.sharing.proofs.Marks.{mark_at, marks_filled}
+use Rattle.sharing.proofs.Filled.{filled_next, filled_all, pad_whole}
+use Rattle.sharing.specs.Code.Sharing.{code_shared}
 use Rattle.sharing.proofs.marks_at.Goals as goal
 
 pub loop-j-init : goal.loop-j-init
-loop-j-init c = (omega arith, fill_start false _ lock_limit false)
+unfolding pad
+loop-j-init c = refl
 
 pub loop-j-preserved : goal.loop-j-preserved
 loop-j-preserved c =
-    let l = c.loop-j in
-    (omega arith, fill_step false _ lock_limit l.marks l.j _ l.invariant.1 (omega arith) c.is_shared.ensures)
+    let row = c.told-parts c.args.k c.requires in
+    filled_next _ lock_limit false _ (omega (arith, row)) c.loop-j.j _ _ _ c.loop-j.invariant (omega (arith, row, c.loop-j-test.true)) c.is_shared.ensures
 
 pub returns : goal.returns
 returns c =
-    let l = c.loop-j in
-    let a = c.args in
-    let e : l.j ≡ lock_limit = omega arith in
-    marks_filled a.codes.now a.n a.k l.marks (subst (Filled false (mark_at a.codes.now a.n a.k) lock_limit l.marks) e l.invariant.1)
+    let row = c.told-parts c.args.k c.requires in
+    let test = code_shared c.args.parts.now in
+    filled_all test lock_limit false _ (omega (arith, row)) c.loop-j.j _ c.loop-j.invariant (omega (arith, row, c.loop-j-test.false))
+    ∙ pad_whole lock_limit false _ (length-map _ test ∙ row)

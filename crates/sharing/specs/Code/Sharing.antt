@@ -1,27 +1,30 @@
--- Which locks are shared, by the numbers of their names in one array: those of the part at the place k from lock_limit × k on, 0 in the places that are left.
---   CodesPut s ns k before after == `after` is `before` with the numbers of the names ns, stretches of the file s, at the places of the part at k
---   names_it codes code k        == the part at the place k names the lock with this number
---   code_shared codes n code     == at least two of the first n parts name it; 0 is the number of no lock
---   marks_at codes n k           == so for each lock of the part at the place k
+-- Which locks are shared, by the numbers of their names: each part has a row of them, with none in the places that are left.
+--   row_of names          == the row of a part with these lock names
+--   codes_of s ns         == the same of the names ns, stretches of the file s
+--   names_it code row     == the part with this row names the lock with this number
+--   code_shared rows code == there is a lock, and at least two of the parts with these rows name it
+--   marks_at rows k       == so for each lock of the part at the place k
 -- Assumes nothing.
-use Rattle.std.specs.Prelude.{ℕ, ◌+◌, ◌*◌, Bool, not, ◌&&◌, List, map, leb, eqb, length, get_or}
-use Rattle.least.specs.Lists.{count_from, those}
-use Rattle.least.specs.Search.{any_from}
-use Rattle.least.specs.Code.Stored.{Stored}
+use Rattle.std.specs.Prelude.{ℕ, Bool, ◌&&◌, List, [], map, leb, eqb, count_by, get_or, Option, None}
+use Rattle.std.specs.List.{list_any}
+use Rattle.std.specs.Option.{option_eq, is_some}
+use Rattle.least.specs.Lists.{pad}
 use Rattle.refusal.specs.Limits.{lock_limit}
-use Rattle.stretch.specs.Stretch.{bytes_of}
 use Rattle.codes.specs.Code.Codes.{code_if}
 use Rattle.plan_file.specs.declared.Names.{Names}
-use Rattle.plan_file.specs.Stretches.{no_span}
+use Rattle.plan_file.specs.Code.Entries.{names_of}
 
-abbrev pub CodesPut : List ℕ → Names → ℕ → List ℕ → List ℕ → Type 0
-CodesPut s ns k before after = Stored (λ j. code_if (bytes_of s (get_or ns.span j no_span))) (lock_limit * k) ns.count before after
+unfoldable pub row_of : List (List ℕ) → List (Option ℕ)
+row_of names = pad lock_limit None (map code_if names)
 
-unfoldable pub names_it : List ℕ → ℕ → ℕ → Bool
-names_it codes code k = any_from (λ j. eqb (get_or codes (lock_limit * k + j) 0) code) 0 lock_limit
+abbrev pub codes_of : List ℕ → Names → List (Option ℕ)
+codes_of s ns = row_of (names_of s ns)
 
-unfoldable pub code_shared : List ℕ → ℕ → ℕ → Bool
-code_shared codes n code = not (eqb code 0) && leb 2 (length (those (names_it codes code) (count_from 0 n)))
+abbrev pub names_it : Option ℕ → List (Option ℕ) → Bool
+names_it code row = list_any (λ c. option_eq eqb c code) row
 
-unfoldable pub marks_at : List ℕ → ℕ → ℕ → List Bool
-marks_at codes n k = map (λ j. code_shared codes n (get_or codes (lock_limit * k + j) 0)) (count_from 0 lock_limit)
+abbrev pub code_shared : List (List (Option ℕ)) → Option ℕ → Bool
+code_shared rows code = is_some code && leb 2 (count_by (names_it code) rows)
+
+abbrev pub marks_at : List (List (Option ℕ)) → ℕ → List Bool
+marks_at rows k = map (code_shared rows) (get_or rows k [])

@@ -1,6 +1,6 @@
 -- `shown::show_ceilings` meets its contract: each turn fills one place, and what the hint says is so.
 -- Assumes nothing.
-use Prim.Native.Nat.{suc, ◌-◌, ◌*◌, ◌≤◌}
+use Prim.Native.Nat.{suc, ◌*◌}
 use Rattle.least.specs.Code.Stored.{Stored}
 use Rattle.refusal.specs.Limits.{lock_limit}
 use Rattle.task_set.specs.Code.Partition.{partition_of}
@@ -11,7 +11,4 @@ use Rattle.shown.proofs.show_ceilings.Given as goal
 
 abbrev pub invariant-loop-j : goal.invariant-loop-j
 invariant-loop-j l =
-    (l.j ≤ l.part.locks) × Stored (λ i. shown_ceiling (partition_of l.part) l.x (suc i)) (lock_limit * l.k) l.j l.initial.ceilings l.ceilings × HintIs (times_of l.separations l.costs l.part.count) l.hint
-
-abbrev pub decreases-loop-j : goal.decreases-loop-j
-decreases-loop-j l = l.part.locks - l.j
+    Stored (λ i. shown_ceiling (partition_of l.part) l.x (suc i)) (lock_limit * l.k) l.j l.initial.ceilings l.ceilings × HintIs (times_of l.columns.times) l.hint

@@ -1,80 +1,84 @@
 -- `task_line::ask_task` meets its contract: each way through it is a law of `Asking`.
 -- Assumes nothing.
-use Prim.Native.Nat.{ℕ, ◌≤◌}
-use native.Mathlib.Omega.{arith}
-use mathlib.Core.Path.{◌≡◌, sym, ap, ◌∙◌}
-use lib.ListN.{take}
+use mathlib.Core.Path.{◌≡◌, ◌∙◌}
+use mathlib.Core.Bool.{false}
+use Rattle.std.proofs.Common.{Err, rules}
+use Rattle.std.specs.Option.{is_some}
+use Rattle.refusal.specs.declared.Refusal.TheVariants.{BadName, BadNumber}
 use Rattle.stretch.specs.Stretch.{bytes_of}
-use Rattle.codes.specs.Code.Codes.{code_if, place_of}
-use Rattle.codes.proofs.Codes.{code_unnamed, code_named}
-use Rattle.plan_file.specs.Code.Entries.{names_of, place_among}
-use Rattle.plan_file.proofs.Asking.{TimesAre, times_are, times_malformed, Named, task_misplaced, task_misnamed, task_known, task_misnumbered, task_cost_over_deadline, task_deadline_over_separation, task_too_many, task_enters}
+use Rattle.codes.proofs.Codes.{Coded, some_named, none_unnamed}
+use Rattle.plan_file.specs.Code.Entries.{names_of, place_in}
+use Rattle.plan_file.proofs.Asking.{number_is, number_none, TimesAre, times_are, separation_malformed, cost_malformed, deadline_malformed, Named, task_misplaced, task_misnamed, task_known, task_misnumbered, task_misordered, task_too_many, task_enters}
 use Rattle.plan_file.proofs.Coded.{numbers_place}
 use Rattle.task_line.proofs.ask_task.Goals as goal
-use Rattle.task_line.proofs.ask_task.Goals.{After-name_code-code, After-place_of, Else-code-eq0, Else-n-ge-TASK_LIMIT, Else-place_of-n, In-Are, In-Malformed, Start, Then-code-eq0, Then-d-c, Then-n-ge-TASK_LIMIT, Then-place_of-n, Then-t-d}
+use Rattle.task_line.proofs.ask_task.Goals.{In_ok-code, After-place_of, Else-is_some, In_ok-d}
 
 -- behind question 5
-abbrev start : Else-code-eq0 → Start
-start c = (goal.at.Else-code-eq0 c).Start
+coded : (c : In_ok-code) → let a = c.args in Coded (bytes_of a.s.now a.name) c.in_ok-code.code
+coded c = some_named _ _ (cc (c.in_ok-code.ensures.ok_part))
 
-code_is : (c : After-name_code-code) → let a = c.args in c.name_code-code.result ≡ code_if (bytes_of a.s.now a.name)
-code_is c = c.name_code-code.ensures ∙ ap code_if c.within.ensures
-
-named : (c : Else-code-eq0) → let a = (start c).args in Named a.allowed (bytes_of a.s.now a.name)
-named c = record { here = c.if-not-allowed.false; good = code_named _ (λ z. c.if-code-eq0.false (code_is (goal.at.Else-code-eq0 c).After-name_code-code ∙ z)) }
+named : (c : In_ok-code) → let a = c.args in Named a.allowed (bytes_of a.s.now a.name)
+named c = record { here = c.if-not-allowed.false; good = (coded c).good }
 
 -- the place of the name
-placed : (c : After-place_of) → let a = (start (goal.at.After-place_of c).Else-code-eq0).args in c.place_of.result ≡ place_among (bytes_of a.s.now a.name) (names_of a.s.now a.tasks)
+placed : (c : After-place_of) → let a = c.args in c.place_of.result ≡ place_in (bytes_of a.s.now a.name) (names_of a.s.now a.tasks.now)
 placed c =
-    let s = start (goal.at.After-place_of c).Else-code-eq0 in
-    let a = s.args in
-    c.place_of.ensures
-    ∙ ap (λ (x : ℕ). place_of x (take a.tasks.count a.codes.now)) (code_is (goal.at.After-place_of c).After-name_code-code)
-    ∙ numbers_place a.s.now a.tasks a.codes.now s.requires.1 (bytes_of a.s.now a.name) (named (goal.at.After-place_of c).Else-code-eq0).good
+    let d = coded (goal.at.After-place_of c).In_ok-code in
+    cc (numbers_place _ _ _ c.requires.1 _ d.good, d.is)
 
 -- behind question 6
-new : (c : Else-place_of-n) → let a = (start (goal.at.Else-place_of-n c).Else-code-eq0).args in a.tasks.count ≤ place_among (bytes_of a.s.now a.name) (names_of a.s.now a.tasks)
-new c = rw (← placed (goal.at.Else-place_of-n c).After-place_of) c.if-place_of-n.false
+new : (c : Else-is_some) → let a = c.args in is_some (place_in (bytes_of a.s.now a.name) (names_of a.s.now a.tasks.now)) ≡ false
+new c = cc (placed (goal.at.Else-is_some c).After-place_of)
 
 -- behind question 7
-times : (c : In-Are) → let a = (start (goal.at.In-Are c).Else-code-eq0).args in TimesAre (bytes_of a.s.now a.separation) (bytes_of a.s.now a.cost) (bytes_of a.s.now a.deadline) c.in-Are.t c.in-Are.c c.in-Are.d
-times c = times_are _ _ _ _ _ _ (cc)
+times : (c : In_ok-d) → let a = c.args in TimesAre (bytes_of a.s.now a.separation) (bytes_of a.s.now a.cost) (bytes_of a.s.now a.deadline) c.in_ok-t.t c.in_ok-c.c c.in_ok-d.d
+times c = times_are _ _ _ (number_is _ _ (cc (c.in_ok-t.ensures.ok_part))) (number_is _ _ (cc (c.in_ok-c.ensures.ok_part))) (number_is _ _ (cc (c.in_ok-d.ensures.ok_part)))
 
 pub returns-then-not-allowed : goal.returns-then-not-allowed
 returns-then-not-allowed c = task_misplaced _ _ _ _ _ _ _ _ c.requires.0 (c.if-not-allowed.true)
 
-pub within-requires : goal.within-requires
-within-requires c = c.requires.2
+pub returns-in_err-code : goal.returns-in_err-code
+returns-in_err-code c =
+    let r : c.from_residual.result ≡ Err (BadName c.args.line) = search rules in
+    r ∙ task_misnamed _ _ _ _ _ _ _ _ c.requires.0 c.if-not-allowed.false (none_unnamed _ (cc (c.in_err-code.ensures.ok_part)))
 
-pub returns-then-code-eq0 : goal.returns-then-code-eq0
-returns-then-code-eq0 c =
-    task_misnamed _ _ _ _ _ _ _ _ c.requires.0 (c.if-not-allowed.false) (code_unnamed _ (sym (code_is (goal.at.returns-then-code-eq0 c).After-name_code-code) ∙ c.if-code-eq0.true))
+pub returns-then-is_some : goal.returns-then-is_some
+returns-then-is_some c =
+    let e = (goal.at.returns-then-is_some c).After-place_of in
+    task_known _ _ _ _ _ _ _ _ c.requires.0 (named (goal.at.After-place_of e).In_ok-code) (cc (placed e))
 
-pub place_of-requires : goal.place_of-requires
-place_of-requires c = let s = start c in omega (arith, s.requires.0.few, s.requires.1.room)
+pub returns-in_err-t : goal.returns-in_err-t
+returns-in_err-t c =
+    let r : c.from_residual-in_err-t.result ≡ Err (BadNumber c.args.line) = search rules in
+    let e = (goal.at.returns-in_err-t c).Else-is_some in
+    r ∙ task_misnumbered _ _ _ _ _ _ _ _ c.requires.0 (named (goal.at.Else-is_some e).In_ok-code) (new e) (separation_malformed _ _ _ (number_none _ (cc (c.in_err-t.ensures.ok_part))))
 
-pub returns-then-place_of-n : goal.returns-then-place_of-n
-returns-then-place_of-n c = task_known _ _ _ _ _ _ _ _ (start (goal.at.returns-then-place_of-n c).Else-code-eq0).requires.0 (named (goal.at.returns-then-place_of-n c).Else-code-eq0) (rw (← placed (goal.at.returns-then-place_of-n c).After-place_of) c.if-place_of-n.true)
+pub returns-in_err-c : goal.returns-in_err-c
+returns-in_err-c c =
+    let r : c.from_residual-in_err-c.result ≡ Err (BadNumber c.args.line) = search rules in
+    let e = (goal.at.returns-in_err-c c).Else-is_some in
+    r ∙ task_misnumbered _ _ _ _ _ _ _ _ c.requires.0 (named (goal.at.Else-is_some e).In_ok-code) (new e) (cost_malformed _ _ _ (number_none _ (cc (c.in_err-c.ensures.ok_part))))
 
-pub read_times-requires : goal.read_times-requires
-read_times-requires c = let p = (start (goal.at.read_times-requires c).Else-code-eq0).requires in (p.3, p.4, p.5)
+pub returns-in_err-d : goal.returns-in_err-d
+returns-in_err-d c =
+    let r : c.from_residual-in_err-d.result ≡ Err (BadNumber c.args.line) = search rules in
+    let e = (goal.at.returns-in_err-d c).Else-is_some in
+    r ∙ task_misnumbered _ _ _ _ _ _ _ _ c.requires.0 (named (goal.at.Else-is_some e).In_ok-code) (new e) (deadline_malformed _ _ _ (number_none _ (cc (c.in_err-d.ensures.ok_part))))
 
 pub returns-then-d-c : goal.returns-then-d-c
 returns-then-d-c c =
-    task_cost_over_deadline _ _ _ _ _ _ _ _ (start (goal.at.returns-then-d-c c).Else-code-eq0).requires.0 (named (goal.at.returns-then-d-c c).Else-code-eq0) (new (goal.at.returns-then-d-c c).Else-place_of-n) (times (goal.at.returns-then-d-c c).In-Are) c.if-d-c.true
+    let f = (goal.at.returns-then-d-c c).In_ok-d in
+    let e = (goal.at.In_ok-d f).Else-is_some in
+    task_misordered _ _ _ _ _ _ _ _ c.requires.0 (named (goal.at.Else-is_some e).In_ok-code) (new e) (times f) c.then-d-c.either
 
-pub returns-then-t-d : goal.returns-then-t-d
-returns-then-t-d c =
-    task_deadline_over_separation _ _ _ _ _ _ _ _ (start (goal.at.returns-then-t-d c).Else-code-eq0).requires.0 (named (goal.at.returns-then-t-d c).Else-code-eq0) (new (goal.at.returns-then-t-d c).Else-place_of-n) (times (goal.at.returns-then-t-d c).In-Are) c.if-t-d.true
+pub returns-then-tasks-ge-TASK_LIMIT : goal.returns-then-tasks-ge-TASK_LIMIT
+returns-then-tasks-ge-TASK_LIMIT c =
+    let f = (goal.at.returns-then-tasks-ge-TASK_LIMIT c).In_ok-d in
+    let e = (goal.at.In_ok-d f).Else-is_some in
+    task_too_many _ _ _ _ _ _ _ _ c.requires.0 (named (goal.at.Else-is_some e).In_ok-code) (new e) (times f) c.if-d-c.false c.if-t-d.false c.if-tasks-ge-TASK_LIMIT.true
 
-pub returns-then-n-ge-TASK_LIMIT : goal.returns-then-n-ge-TASK_LIMIT
-returns-then-n-ge-TASK_LIMIT c =
-    task_too_many _ _ _ _ _ _ _ _ (start (goal.at.returns-then-n-ge-TASK_LIMIT c).Else-code-eq0).requires.0 (named (goal.at.returns-then-n-ge-TASK_LIMIT c).Else-code-eq0) (new (goal.at.returns-then-n-ge-TASK_LIMIT c).Else-place_of-n) (times (goal.at.returns-then-n-ge-TASK_LIMIT c).In-Are) c.if-d-c.false c.if-t-d.false c.if-n-ge-TASK_LIMIT.true
-
-pub returns-in-Malformed : goal.returns-in-Malformed
-returns-in-Malformed c =
-    task_misnumbered _ _ _ _ _ _ _ _ (start (goal.at.returns-in-Malformed c).Else-code-eq0).requires.0 (named (goal.at.returns-in-Malformed c).Else-code-eq0) (new (goal.at.returns-in-Malformed c).Else-place_of-n) (times_malformed _ _ _ (cc))
-
-pub returns-else-n-ge-TASK_LIMIT : goal.returns-else-n-ge-TASK_LIMIT
-returns-else-n-ge-TASK_LIMIT c =
-    task_enters _ _ _ _ _ _ _ _ (start (goal.at.returns-else-n-ge-TASK_LIMIT c).Else-code-eq0).requires.0 (named (goal.at.returns-else-n-ge-TASK_LIMIT c).Else-code-eq0) (new (goal.at.returns-else-n-ge-TASK_LIMIT c).Else-place_of-n) (times (goal.at.returns-else-n-ge-TASK_LIMIT c).In-Are) c.if-d-c.false c.if-t-d.false c.if-n-ge-TASK_LIMIT.false
+pub returns : goal.returns
+returns c =
+    let f = (goal.at.returns c).In_ok-d in
+    let e = (goal.at.In_ok-d f).Else-is_some in
+    task_enters _ _ _ _ _ _ _ _ c.requires.0 (named (goal.at.Else-is_some e).In_ok-code) (new e) (times f) c.if-d-c.false c.if-t-d.false c.if-tasks-ge-TASK_LIMIT.false

@@ -1,6 +1,7 @@
 -- `task_set::columns_of` meets its contract: each turn fills one place of the three columns.
 -- Assumes nothing.
-use Prim.Native.Nat.{ℕ, ◌-◌}
+use Prim.Native.Nat.{ℕ}
+use mathlib.Core.Path.{◌≡◌}
 use lib.ListN.{get_or}
 use Rattle.least.proofs.Fill.{Filled}
 use Rattle.task_set.specs.declared.Part.{Part}
@@ -19,7 +20,4 @@ D p k = (get_or p.tasks k blank_task).deadline
 
 abbrev pub invariant-loop-k : goal.invariant-loop-k
 invariant-loop-k l =
-    Filled 0 (T l.part) 16 l.separations l.k × Filled 0 (C l.part) 16 l.costs l.k × Filled 0 (D l.part) 16 l.deadlines l.k
-
-abbrev pub decreases-loop-k : goal.decreases-loop-k
-decreases-loop-k l = 16 - l.k
+    Filled 0 (T l.part) 16 l.times.periods l.k × Filled 0 (C l.part) 16 l.times.costs l.k × Filled 0 (D l.part) 16 l.deadlines l.k × (l.times.count ≡ l.part.count)

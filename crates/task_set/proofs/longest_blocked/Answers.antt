@@ -21,10 +21,10 @@ pub loop-j-preserved : goal.loop-j-preserved
 loop-j-preserved c =
     let a = c.args in
     let l = c.loop-j in
-    rw (add-one) (omega (arith, c.larger-greatest.ensures, c.blocked_for.ensures, greatest_from (by a.below.now a.ceilings.now a.i) l.j a.m (omega arith), l.invariant))
+    rw (add-one) (omega (arith, c.max-greatest.ensures, c.blocked_for.ensures, greatest_from (by a.below.now a.ceilings.now a.i) l.j a.m (omega arith), l.invariant))
 
 pub returns : goal.returns
 returns c =
     let a = c.args in
     let l = c.loop-j in
-    omega (arith, l.invariant, greatest_past (by a.below.now a.ceilings.now a.i) l.j a.m c.loop-j-test.false)
+    omega (arith, l.invariant, greatest_past (by a.below.now a.ceilings.now a.i) l.j a.m (omega arith))

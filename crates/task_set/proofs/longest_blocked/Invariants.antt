@@ -18,6 +18,3 @@ left below ceilings m i j = greatest (map (by below ceilings i) (count_from j (m
 
 abbrev pub invariant-loop-j : goal.invariant-loop-j
 invariant-loop-j l = max l.greatest (left l.below l.ceilings l.m l.i l.j) ≡ blocking_by l.below l.ceilings l.m l.i
-
-abbrev pub decreases-loop-j : goal.decreases-loop-j
-decreases-loop-j l = l.m - l.j

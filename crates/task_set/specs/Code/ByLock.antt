@@ -1,8 +1,9 @@
 -- The locks of a part by places, from 0: arrays with their numbers, and the blocking of a task from such arrays.
 --   lock_of l ts                     == of lock l: its lowest ceiling, the greatest c and the smallest deadline of its users
---   earlier a b                      == the smaller of two deadlines, where 0 stands for none
 --   with_user lock number c deadline == the lock, once the task with this number is known to hold it for c; c = 0 where it does not use it
+--   lock_at locks j                  == the lock at the place j
 --   LocksAre p locks                 == the first places hold the numbers of the part's locks
+--   LowestAre locks ceilings         == the array holds the lowest ceiling of each of eight locks
 --   LongestBelow p table             == at 8 i + j, i < 16, j < 8, the longest use of lock j + 1 by a task below the place i
 --   blocked_for ceiling c i          == c, where a lock with this ceiling blocks the task at the place i, else 0
 --   blocking_by below ceilings m i   == the blocking of the task at the place i under these ceilings of m locks, from the table `below`
@@ -15,7 +16,6 @@ use Rattle.least.specs.Lists.{greatest, count_from}
 use Rattle.task_set.specs.declared.Task.{Task}
 use Rattle.task_set.specs.declared.Part.{Part}
 use Rattle.task_set.specs.declared.Lock.{Lock}
-use Rattle.task_set.specs.declared.Locks.{Locks}
 use Rattle.task_set.specs.Tasks.{held_for, lowest_ceiling, greatest_held, smallest_deadline}
 use Rattle.task_set.specs.Code.Tasks.{tasks_of}
 use Rattle.task_set.specs.Blocking.{Setting}
@@ -23,19 +23,26 @@ use Rattle.task_set.specs.Blocking.{Setting}
 abbrev pub lock_of : ℕ → List Task → Lock
 lock_of l ts = record { lowest = lowest_ceiling l ts; longest = greatest_held l ts; deadline = smallest_deadline l ts }
 
-unfoldable pub earlier : ℕ → ℕ → ℕ
-earlier a b = cond (leb 1 a) (cond (leb 1 b) (min a b) a) b
-
 unfoldable pub with_user : Lock → ℕ → ℕ → ℕ → Lock
 with_user lock number c deadline =
     cond (leb 1 c)
-    (record { lowest = number; longest = max lock.longest c; deadline = earlier lock.deadline deadline })
+    (record { lowest = number; longest = max lock.longest c; deadline = min lock.deadline deadline })
     lock
 
-pub record LocksAre (p : Part) (locks : Locks) : Type 0 where
-  pub lowest : (j : ℕ) → j < p.locks → get_or locks.lowest j 0 ≡ lowest_ceiling (suc j) (tasks_of p)
-  pub longest : (j : ℕ) → j < p.locks → get_or locks.longest j 0 ≡ greatest_held (suc j) (tasks_of p)
-  pub deadlines : (j : ℕ) → j < p.locks → get_or locks.deadlines j 0 ≡ smallest_deadline (suc j) (tasks_of p)
+-- what is read past the end of an array of locks, which nobody does
+abbrev pub blank_lock : Lock
+blank_lock = record { lowest = 0; longest = 0; deadline = 0 }
+
+abbrev pub lock_at : List Lock → ℕ → Lock
+lock_at locks j = get_or locks j blank_lock
+
+pub record LocksAre (p : Part) (locks : List Lock) : Type 0 where
+  pub lowest : (j : ℕ) → j < p.locks → (lock_at locks j).lowest ≡ lowest_ceiling (suc j) (tasks_of p)
+  pub longest : (j : ℕ) → j < p.locks → (lock_at locks j).longest ≡ greatest_held (suc j) (tasks_of p)
+  pub deadlines : (j : ℕ) → j < p.locks → (lock_at locks j).deadline ≡ smallest_deadline (suc j) (tasks_of p)
+
+abbrev pub LowestAre : List Lock → List ℕ → Type 0
+LowestAre locks ceilings = (j : ℕ) → j < 8 → get_or ceilings j 0 ≡ (lock_at locks j).lowest
 
 abbrev pub LongestBelow : Part → List ℕ → Type 0
 LongestBelow p table = (i j : ℕ) → i < 16 → j < 8 → get_or table (8 * i + j) 0 ≡ greatest (map (held_for (suc j)) (take i p.tasks))

@@ -1,6 +1,6 @@
--- `utilisation::share_of` meets its contract. The invariant: what is summed and the share of the tasks from the place k on make up the whole.
+-- `utilisation::share_of` meets its contract. The invariant: what is summed and the share of the tasks from the index on make up the whole.
 -- Assumes nothing.
-use Prim.Native.Nat.{◌+◌, ◌-◌, ◌*◌, ◌≤◌}
+use Prim.Native.Nat.{◌+◌, ◌*◌, ◌≤◌}
 use mathlib.Core.Path.{◌≡◌}
 use lib.ListN.{drop}
 use Rattle.envelope.specs.Code.Envelope.{slope_scale}
@@ -8,8 +8,5 @@ use Rattle.task_set.specs.Code.Tasks.{tasks_of}
 use Rattle.utilisation.specs.Code.Utilisation.{share_in}
 use Rattle.utilisation.proofs.share_of.Given as goal
 
-abbrev pub invariant-loop-k : goal.invariant-loop-k
-invariant-loop-k l = (l.sum + share_in (drop l.k (tasks_of l.part)) ≡ share_in (tasks_of l.part)) × (l.sum ≤ l.k * slope_scale) × (l.k ≤ l.part.count)
-
-abbrev pub decreases-loop-k : goal.decreases-loop-k
-decreases-loop-k l = l.part.count - l.k
+abbrev pub invariant-loop-task : goal.invariant-loop-task
+invariant-loop-task l = (l.sum + share_in (drop l.task-index (tasks_of l.part)) ≡ share_in (tasks_of l.part)) × (l.sum ≤ l.task-index * slope_scale)

@@ -1,0 +1,22 @@
+-- An array filled place by place with what a function gives of a list, the other places as they were at first.
+-- Assumes nothing.
+use Prim.Native.Nat.{ℕ, ◌+◌, ◌≤◌, ◌<◌}
+use native.Mathlib.Omega.{arith}
+use mathlib.Core.Path.{◌≡◌, sym, ap, ◌∙◌}
+use mathlib.Core.List.{List, map}
+use lib.ListN.{length, take, get_or, set, length-map}
+use lib.Seq.{take_all}
+use Rattle.least.specs.Lists.{pad}
+use Rattle.least.proofs.Pad.{length_pad, pad_next, take_pad}
+use Rattle.least.proofs.Places.{get-map}
+
+module _ {A B : Type 0} (f : A → B) (n : ℕ) (z : B) (xs : List A) (fits : length xs ≤ n) where
+  pub filled_next : (i : ℕ) (d : A) (before : List B) (x : B) → before ≡ pad n z (take i (map f xs)) → i < length xs → x ≡ f (get_or xs i d) → set before i x ≡ pad n z (take (i + 1) (map f xs))
+  filled_next i d before x e h is = rw e (pad_next n z (map f xs) i x z (rw (length-map xs f) h) (omega arith) (is ∙ sym (get-map f xs i d z h)))
+
+  pub filled_all : (i : ℕ) (after : List B) → after ≡ pad n z (take i (map f xs)) → length xs ≤ i → after ≡ pad n z (map f xs)
+  filled_all i after e h = e ∙ ap (pad n z) (take_all i (map f xs) (rw (length-map xs f) h))
+
+-- a list that leaves no place
+pub pad_whole : {A : Type 0} (n : ℕ) (z : A) (xs : List A) → length xs ≡ n → pad n z xs ≡ xs
+pad_whole n z xs e = sym (take_all n (pad n z xs) (omega (arith, length_pad n z xs))) ∙ rw (← e) (take_pad (length xs) z xs (omega arith))
