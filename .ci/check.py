@@ -222,7 +222,7 @@ NAME = r'(?:laws? |the function )?`[^`\s]+`'
 NAMES = rf'{NAME}(?:(?:, | and ){NAME})*'
 MUST_BREAK = re.compile(rf'[:.] ({NAMES})(?:, so ({NAMES}),)? must break\.$')
 # An error that says nothing of a fact: the proof no longer fits the code, something cannot be read, or a tactic gave up.
-VACUOUS = re.compile(r'that can be named from here|has no field|has no `|not in scope|is not declared|expected an expression|Parse|cannot be read|met a bound of its own')
+VACUOUS = re.compile(r'that can be named from here|has no field|has no `|not in scope|is not declared|expected an expression|Parse|cannot be read|met a bound of its own|`search` gave up|stopped at its own limit')
 # An error that is there only because of another one.
 FOLLOWS = re.compile(r'was not admitted|, which is not proved')
 # What rt says of an edit that it refused by its meaning; behind that stands the first error, cut off after some words, or the first goal that is not proved.
@@ -335,6 +335,8 @@ def check_one_pass(top):
     ):
         if (found := len(re.findall(form, text))) != 1:
             yield f'{what} stands {found} times, and must stand once'
+    for change in re.findall(r'\bi\s*(?:[-+*/%]?=(?!=)[^;]*);', scan):
+        yield f'scan: the place in the line moves by `{change}`'
     for over in re.findall(r'\b(?:while|loop|for)\b[^{]*', scan):
         if over.strip() != 'for i in at..s.len()':
             yield f'scan: a loop `{over.strip()}`, and not over the places from `at` on'

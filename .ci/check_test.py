@@ -445,7 +445,7 @@ SLIPS = [
     (check.check_edits, 'planning/plan_low: refused before any proof', LOG, PLAN_LOW, PLAN_LOW.replace('error', 'note')),
     *((check.check_edits, 'planning/plan_low: refused for a vacuous reason', LOG, PLAN_LOW, PLAN_LOW.replace('the two types differ', said)) for said in [
         f'`law` {FOLLOWS}', 'module `Goals` has no `returns-then-a`', 'module `Goals` has no name that can be named from here', 'record `Lts` has no field `args`', '`plan_of` is not in scope',
-        '`cc` met a bound of its own', '`plan` calls `print_plan`, which is not proved',
+        '`cc` met a bound of its own', '`plan` calls `print_plan`, which is not proved', '(`returns`); `search` gave up at one of its limits', '`grind` stopped at its own limit of depth',
     ]),
     (check.check_edits, 'planning/plan_low: refused before any proof: specs/', LOG, PLAN_LOW, PLAN_LOW.replace('proofs/plan/Answers', 'specs/Plan')),
     (check.check_edits, 'planning/plan_low: refused before any proof: src/', LOG, PLAN_LOW, 'planning/plan_low.edit: refused, as it must be: src/lib.rt:1:2: error[mismatched-types]: expected `u64`\n'),
@@ -484,6 +484,9 @@ SLIPS = [
     (check.check_one_pass, 'scan: a loop stands 0 times', SCAN_CODE, 'for', '// for'),
     (check.check_one_pass, 'scan: a place where the file is read stands 2 times', SCAN_CODE, 's[i];', 's[i];\n    let c = s[at];'),
     (check.check_one_pass, 'scan: a place where the file is read stands 2 times', SCAN_CODE, '', 'let t = fields::tabs_of(s, at);\n'),
+    (check.check_one_pass, 'scan: the place in the line moves by `i = at - 1;`', SCAN_CODE, 's[i];', 's[i];\n    let mut i = at - 1;'),
+    (check.check_one_pass, 'scan: the place in the line moves by `i -= 1;`', SCAN_CODE, 's[i];', 's[i];\n    i -= 1;'),
+    (check.check_one_pass, 'scan: the place in the line moves by `i = i / 2;`', SCAN_CODE, 'let b', 'let i = i / 2;\n    let b'),
     (check.check_one_pass, 'scan: a loop `for i in 0..s.len()`, and not over the places', SCAN_CODE, 'at..s', '0..s'),
     (check.check_one_pass, 'scan: a loop `while i < s.len()`, and not over the places', SCAN_CODE, 'for i in at..s.len()', 'while i < s.len()'),
     (check.check_one_pass, 'records: a call of scan::line_at stands 2 times', CURSOR, '', 'let m = scan::line_at(s, at);\n'),
@@ -750,6 +753,16 @@ class FirstError(unittest.TestCase):
         for what, goal in [('what the function ensures holds when it returns (`returns`)', 'returns'), ('what `half` requires holds at this call (`half-requires`); `search` gave up', 'half-requires')]:
             with self.subTest(goal=goal):
                 self.assertEqual(check.first_error(Path('none'), f'note: src/lib.rt:25:9: it is not proved that {what}')[1], goal)
+
+    def test_a_limit_of_the_search_is_no_fact(self):
+        for what, limit in [
+            ('what the function ensures holds when it returns (`returns`)', False), ('what the function ensures holds when it returns (`returns`); `search` gave up at one of its limits', True),
+            ('what `half` requires holds at this call (`half-requires`)', False), ('what `half` requires holds at this call (`half-requires`); `search` gave up at one of its limits', True),
+            ('what the function ensures holds when it returns (`returns`); the facts known there allow values at which this goal is false', False),
+        ]:
+            with self.subTest(what=what):
+                said = check.first_error(Path('none'), f'note: src/lib.rt:25:9: it is not proved that {what}')[2]
+                self.assertEqual(bool(check.VACUOUS.search(said)), limit)
 
 
 class Stack(unittest.TestCase):

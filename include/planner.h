@@ -7,7 +7,7 @@
  * Pointers: never null, even where the length is 0; `file` and `out` do not overlap.
  * Threads: nothing is kept between calls. Calls may run at the same time in any threads, as long as
  * nobody writes to the bytes that a call reads, and nobody uses those that it writes.
- * Memory: the archive needs memcpy, memmove and memset of the C library and no more, so a call
+ * Memory: the archive needs memcpy and memset of the C library and nothing else, so a call
  * allocates nothing, reads and writes no file, and waits for nothing. It needs stack: below.
  */
 #ifndef PLANNER_H
@@ -29,14 +29,14 @@
 enum { PLANNER_MOST_NUMBER = 1000000, PLANNER_MOST_BYTES = 32768, PLANNER_MOST_PAIRS = 16 };
 enum { PLANNER_MOST_ROWS = 16, PLANNER_ROOM = 8192, PLANNER_CYCLE = 720 };
 
-/* Bytes of stack that a call needs, its answer included. A program that binds memcpy, memmove and memset only
+/* Bytes of stack that a call needs, its answer included. A program that binds memcpy and memset only
  * when they are first called (no -static, no -z now) needs some KB more in that call. */
 enum {
     PLANNER_STACK_PLAN = 48 * 1024,
     PLANNER_STACK_CHART = 46 * 1024,
     PLANNER_STACK_CANDIDATES = 36 * 1024,
     PLANNER_STACK_NAME = 32 * 1024,
-    PLANNER_STACK_WEIGH = 5 * 1024,
+    PLANNER_STACK_WEIGH = 4 * 1024,
     PLANNER_STACK_SUPPLY = 1 * 1024
 };
 

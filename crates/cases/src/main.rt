@@ -9,11 +9,5 @@ fn print_answer(rt: &impl Print, file: &[u8]) -> io::Result<()> {
 }
 
 fn main(rt: HostRuntime) -> io::Result<()> {
-    streams::each_file(
-        &rt,
-        &mut |path, file| {
-            println!(rt; "== {path}")?;
-            print_answer(&rt, file)
-        },
-    )
+    streams::each_file(&rt, Some("=="), &mut |_, file| print_answer(&rt, file))
 }

@@ -44,10 +44,8 @@ fn print_rooms(rt: &impl Print) -> io::Result<()> {
 fn main(rt: HostRuntime) -> io::Result<()> {
     streams::each_file(
         &rt,
-        &mut |path, file| {
-            println!(rt; "== {path}")?;
-            print_chart(&rt, file, &mut [17; CYCLE + 1])
-        },
+        Some("=="),
+        &mut |_, file| print_chart(&rt, file, &mut [17; CYCLE + 1]),
     )?;
     print_rooms(&rt)
 }

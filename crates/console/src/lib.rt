@@ -26,7 +26,7 @@ pub fn print(file: &[u8]) -> Printed
         Outcome::Refused(_) => {
             let number = refusal::number(p.outcome);
             let place = refusal::place(p.outcome);
-            listing::write_refusal(number, place, &mut text)
+            listing::write_refusal(number, place, &mut text, 0)
         }
     };
     Printed { text, count }

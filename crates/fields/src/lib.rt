@@ -8,12 +8,14 @@ ghost use Rattle.fields.specs.Code.Fields.{number_in};
 
 use refusal::{NAME_LIMIT, NUMBER_LIMIT};
 
+#[tactic(auto, using(crate::proofs::Bytewise::same_pointwise))]
 pub fn same_bytes(a: &[u8], b: &[u8]) -> bool
     ensures { result ≡ same a.now b.now }
 {
     a == b
 }
 
+#[tactic(auto, unfolding(crate::specs::Fields::is_name_byte, text::specs::Decimal::is_digit))]
 pub fn is_name_byte(b: u8) -> bool
     ensures { result ≡ is_name_byte b }
 {

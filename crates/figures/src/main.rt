@@ -37,5 +37,5 @@ fn print_parts(rt: &impl Print, name: &str, file: &[u8]) -> io::Result<()> {
 }
 
 fn main(rt: HostRuntime) -> io::Result<()> {
-    streams::each_file(&rt, &mut |name, file| print_parts(&rt, name, file))
+    streams::each_file(&rt, None, &mut |name, file| print_parts(&rt, name, file))
 }

@@ -1,15 +1,14 @@
--- The first rows of a list in the struct, and the weight of the struct.
+-- The rows of a list, put into the struct one after another, and the weight of the struct.
 -- Assumes nothing.
-use Prim.Native.Nat.{ℕ, min, ◌≤◌, ◌<◌}
+use Prim.Native.Nat.{ℕ, ◌+◌, min, ◌≤◌, ◌<◌}
 use native.Mathlib.Decide.{dec_le}
 use native.Mathlib.Omega.{arith}
-use mathlib.Core.Path.{◌≡◌, sym, ap, ◌∙◌}
-use mathlib.Core.List.{List, [], ◌++◌}
+use mathlib.Core.Path.{◌≡◌, refl, sym, ap, ◌∙◌}
+use mathlib.Core.List.{List}
 use borrow.Author.Tests.{le-leb, lt-leb}
-use lib.ListN.{length, take, drop}
-use lib.Seq.{take-length, length-take-le}
-use Rattle.least.specs.Lists.{pad}
-use Rattle.least.proofs.Pad.{take_pad, pad_over}
+use lib.ListN.{length, take, get_or, set}
+use lib.Seq.{take-length}
+use Rattle.least.proofs.Pad.{take_pad, pad_next}
 use Rattle.refusal.specs.Limits.{row_limit}
 use Rattle.load.specs.declared.Row.{Row}
 use Rattle.load.specs.declared.Rows.{Rows}
@@ -17,6 +16,13 @@ use Rattle.load.specs.Load.{row}
 use Rattle.load.specs.Weigh.{weigh_of, rows_of, weigh_rows}
 use Rattle.load.specs.Code.Weigh.{rows_from}
 use Rattle.load.proofs.Weighing.{wrong_count, weigh_many, weigh_few}
+
+abbrev pub with_row : Rows → ℕ → Row → Rows
+with_row all i r = record { rows = set all.rows i r; count = all.count }
+
+-- one row more
+pub rows_next : (xs : List Row) (n i : ℕ) → i < length xs → i < row_limit → with_row (rows_from (take i xs) n) i (get_or xs i (row 0 0 0)) ≡ rows_from (take (i + 1) xs) n
+rows_next xs n i h l = ap (λ (rows : List Row). record { rows = rows; count = n }) (pad_next 16 (row 0 0 0) xs i (get_or xs i (row 0 0 0)) (row 0 0 0) h l refl)
 
 -- the rows that have a place, with the count of all
 pub weigh_first : (xs : List Row) → weigh_rows (rows_from (take (min (length xs) row_limit) xs) (length xs)) ≡ weigh_of xs
@@ -31,11 +37,3 @@ weigh_first xs = go (dec_le (length xs) row_limit)
         let l : row_limit < length xs = omega arith in
         let m : 1 ≤ length xs = omega arith in
         weigh_many _ l ∙ sym (wrong_count xs (simp (le-leb _ _ m, lt-leb _ _ l)))
-
--- they are copied over rows of zeros
-pub rows_copied : (xs first : List Row) (places : ℕ) → places ≡ min (length xs) row_limit → first ≡ take places xs
-    → ◌≡◌ {A = Rows} (record { rows = first ++ drop places (pad 16 (row 0 0 0) []); count = length xs }) (rows_from (take (min (length xs) row_limit) xs) (length xs))
-rows_copied xs first places e f =
-    let n : length first ≡ places = ap length f ∙ length-take-le places xs (omega arith) in
-    let over : first ++ drop places (pad 16 (row 0 0 0) []) ≡ pad 16 (row 0 0 0) first = ap (λ (k : ℕ). first ++ drop k (pad 16 (row 0 0 0) [])) (sym n) ∙ pad_over 16 (row 0 0 0) first (omega arith) in
-    ap (λ (rows : List Row). record { rows = rows; count = length xs }) (over ∙ ap (pad 16 (row 0 0 0)) (f ∙ ap (λ (k : ℕ). take k xs) e))

@@ -40,16 +40,19 @@ fn first_rows(rows: &[Row]) -> Rows
     ensures { result ≡ rows_from (take (min (length rows.now) row_limit) rows.now) (length rows.now) }
 {
     let places = rows.len().min(ROW_LIMIT);
-    let mut first = [Row {
-        period: 0,
-        budget: 0,
-        holding: 0,
-    }; ROW_LIMIT];
-    first[..places].copy_from_slice(&rows[..places]);
-    Rows {
-        rows: first,
+    // Kept: filled in the struct, row by row; an array of its own, by `copy_from_slice`, takes 384 bytes of stack more.
+    let mut first = Rows {
+        rows: [Row {
+            period: 0,
+            budget: 0,
+            holding: 0,
+        }; ROW_LIMIT],
         count: rows.len(),
+    };
+    for i in 0..places {
+        first.rows[i] = rows[i];
     }
+    first
 }
 
 // Weighs a lent list of rows, of any length. Only the first sixteen are copied: more are refused by their count.

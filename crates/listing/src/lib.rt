@@ -1,7 +1,7 @@
 // The lines that a plan prints: how long they are, and how they are written into a lent buffer.
 #![tactic(auto)]
 
-ghost use Rattle.std.specs.Prelude.{◌≡◌, [], ◌∷◌, ◌^◌, ◌≤◌, length};
+ghost use Rattle.std.specs.Prelude.{◌≡◌, [], ◌∷◌, ◌+◌, ◌^◌, ◌≤◌, length};
 ghost use Rattle.text.specs.Bytes.{line_of};
 ghost use Rattle.text.specs.Decimal.{digits_of};
 ghost use Rattle.writer.specs.Code.Written.{Room, Written, Wrote};
@@ -58,12 +58,13 @@ fn ceiling_length(lock: &[u8], number: u64) -> usize
     10 + lock.len() + writer::digit_count(number)
 }
 
-// `refused` NUMBER PLACE, from the start of the buffer on.
-pub fn write_refusal(number: u64, place: u64, out: &mut [u8]) -> usize
-    requires { length (refused_line number place) ≤ length out.old }
-    ensures { Written 0 (refused_line number place) out.old out.new result }
+// `refused` NUMBER PLACE, from a place of the buffer on.
+pub fn write_refusal(number: u64, place: u64, out: &mut [u8], at: usize) -> usize
+    requires { at + length (refused_line number place) ≤ length out.old }
+    ensures { Written at (refused_line number place) out.old out.new result }
 {
     let mut w = Writer::new(out);
+    w.at = at;
     w.word_field(b"refused", TAB);
     w.number_field(number, TAB);
     w.number_field(place, NEWLINE);

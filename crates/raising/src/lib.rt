@@ -74,7 +74,9 @@ pub fn raise(
                 x,
                 &hint,
             );
-            let held = next.held?;
+            let Some(held) = next.held else {
+                return None;
+            };
             raised.ceilings[j] = held.ceiling;
             raised.times[j] = held.time;
             hint = next.hint;

@@ -2,7 +2,7 @@
 #![tactic(auto)]
 
 ghost use Rattle.std.specs.Prelude.{◌≡◌, ◌<◌, ◌^◌, MatchResult, IfErr};
-ghost use Rattle.reader.specs.Code.Reader.{closed_part, LinesFrom, PartsFine, SharedMarked, ReadFromIs, RefusedFrom};
+ghost use Rattle.reader.specs.Code.Reader.{no_part_read, no_file, closed_part, LinesFrom, NoPartIn, PartsFine, SharedMarked, ReadFromIs, RefusedFrom};
 
 use plan_file::{Entry, NO_NAMES, NO_TASK, Names, Seen};
 use records::{Cursor, Next};
@@ -29,18 +29,21 @@ pub struct PlanFile {
 impl PlanFile {
     // A place for what is read, with nothing in it.
     pub fn new() -> PlanFile
-        ensures { result.count ≡ 0 }
+        ensures { result ≡ no_file }
     {
+        let count = 0;
         PlanFile {
             parts: [no_part(); PART_LIMIT],
-            count: 0,
+            count,
         }
     }
 }
 
 // A part of which nothing was read.
 // Kept: a function beside `new`: written there, `new` takes 42 KB of stack (measured), as a call of this it takes none.
-fn no_part() -> PartRead {
+fn no_part() -> PartRead
+    ensures { result ≡ no_part_read }
+{
     PartRead {
         name: Span { start: 0, len: 0 },
         part: Part {
@@ -75,7 +78,7 @@ fn closed_part(name: Span, period: u64, tasks: &[Task; TASK_LIMIT], seen: &Seen)
 fn read_lines(s: &[u8], first: u64, f: &mut PlanFile) -> Result<(), Refusal>
     requires { first < 2 ^ 62 }
     ensures read { MatchResult result (λ _. LinesFrom first s.now f.new) (RefusedFrom first s.now) }
-    ensures refused { IfErr result (λ _. f.new.count ≡ 0) }
+    ensures refused { IfErr result (λ _. NoPartIn f.new) }
 {
     f.count = 0;
     if FILE_LIMIT < s.len() {
@@ -173,12 +176,12 @@ fn mark_shared(s: &[u8], f: &mut PlanFile)
     ensures { SharedMarked s.now f.old f.new }
 {
     let n = f.count;
-    let mut codes = [[None; LOCK_LIMIT]; PART_LIMIT];
+    let mut codes = [[0; LOCK_LIMIT]; PART_LIMIT];
     for (k, part) in f.parts[..n].iter().enumerate() {
         sharing::put_codes(s, &part.locks, k, &mut codes);
     }
     for k in 0..n {
-        f.parts[k].part.shared = sharing::marks_at(&codes[..n], k);
+        f.parts[k].part.shared = sharing::marks_at(&codes, n, k);
     }
 }
 
@@ -186,7 +189,7 @@ fn mark_shared(s: &[u8], f: &mut PlanFile)
 pub fn read_file(s: &[u8], first: u64, f: &mut PlanFile) -> Result<(), Refusal>
     requires { first < 2 ^ 62 }
     ensures read { MatchResult result (λ _. ReadFromIs first s.now f.new) (RefusedFrom first s.now) }
-    ensures refused { IfErr result (λ _. f.new.count ≡ 0) }
+    ensures refused { IfErr result (λ _. NoPartIn f.new) }
 {
     read_lines(s, first, f)?;
     mark_shared(s, f);

@@ -28,11 +28,5 @@ fn print_lines(rt: &impl Print, file: &[u8]) -> io::Result<()> {
 }
 
 fn main(rt: HostRuntime) -> io::Result<()> {
-    streams::each_file(
-        &rt,
-        &mut |path, file| {
-            println!(rt; "== {path}")?;
-            print_lines(&rt, file)
-        },
-    )
+    streams::each_file(&rt, Some("=="), &mut |_, file| print_lines(&rt, file))
 }

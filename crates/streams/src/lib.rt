@@ -1,7 +1,7 @@
 // What the programs need beside what std has: filling a lent buffer from a reader, lending each file that the arguments name, and the words for why a call failed.
 #![tactic(auto)]
 
-ghost use Rattle.std.specs.Prelude.{ℕ, List, ◌+◌, ◌≤◌, length, take, OnOk};
+ghost use Rattle.std.specs.Prelude.{◌≡◌, ℕ, List, ◌+◌, ◌≤◌, length, take, OnOk, MatchResult};
 ghost use Rattle.std.specs.List.{FoldsTo};
 ghost use denote.Ref.{Bor};
 ghost use Rattle.std.specs.Io.KnownBytes.{Consumes};
@@ -29,9 +29,46 @@ pub fn read_full<R: Read>(input: &mut R, buf: &mut [u8]) -> usize
     done
 }
 
-// Opens in turn each file that the arguments name, and lends `visit` its name and its first bytes: as many as a file may have, and one more. Of one that cannot be
-// opened standard error says why.
-pub fn each_file<F>(rt: &impl Runtime, visit: &mut F) -> io::Result<()>
+// The line with a file's name, for a program that prints one.
+fn print_heading(rt: &impl Print, heading: Option<&str>, path: &str) -> io::Result<()> {
+    match heading {
+        Some(mark) => println!(rt; "{mark} {path}"),
+        None => Ok(()),
+    }
+}
+
+// What opening a file gave: prints the heading with its name before a byte of it is read, and lends `visit` its name and its first bytes. Of one that could not be
+// opened standard error says why, and `visit` is lent nothing.
+fn lend_opened<R, F>(
+    rt: &impl Runtime,
+    heading: Option<&str>,
+    path: &str,
+    opened: io::Result<R>,
+    room: &mut [u8],
+    visit: &mut F,
+) -> io::Result<()>
+where
+    R: Read + Drop,
+    F: FnMut(&str, &[u8]) -> io::Result<()>,
+    requires { (state : F) (path : _) (file : _) → length file.now ≤ length room.old → F.pre state path file }
+    ensures kept { length room.new ≡ length room.old }
+    ensures lent { OnOk result (MatchResult opened
+        (λ input. (file : Bor (List ℕ)) × (rest : _) × Consumes (R.remaining input) rest file.now × F.step visit.old path.entry file (Ok tt) visit.new)
+        (λ _. visit.new ≡ visit.old)) }
+{
+    match opened {
+        Ok(mut file) => {
+            print_heading(rt, heading, path)?;
+            let n = read_full(&mut file, room);
+            visit(path, &room[..n])
+        }
+        Err(e) => eprintln!(rt; "{path}: {}", Reason(&e)),
+    }
+}
+
+// Opens in turn each file that the arguments name, prints the heading with its name before a byte of it is read, and lends `visit` its name and its first bytes: as
+// many as a file may have, and one more. Of one that cannot be opened standard error says why.
+pub fn each_file<F>(rt: &impl Runtime, heading: Option<&str>, visit: &mut F) -> io::Result<()>
 where
     F: FnMut(&str, &[u8]) -> io::Result<()>,
     requires { (state : F) (path : _) (file : _) → length file.now ≤ FILE_LIMIT + 1 → F.pre state path file }
@@ -41,13 +78,8 @@ where
     let mut room = [0u8; FILE_LIMIT + 1];
     for path in env::args(rt)?.skip(1) {
         let path = path.as_str();
-        match File::open(rt, path) {
-            Ok(mut file) => {
-                let n = read_full(&mut file, &mut room);
-                visit(path, &room[..n])?;
-            }
-            Err(e) => eprintln!(rt; "{path}: {}", Reason(&e))?,
-        }
+        let opened = File::open(rt, path);
+        lend_opened(rt, heading, path, opened, &mut room, visit)?;
     }
     Ok(())
 }

@@ -23,21 +23,21 @@ bytes_over s p h =
     ∙ sym (take_all p.len (drop p.start s) (simp length-drop h))
 
 -- the part from its start on, or from the end of the file on, as far as the file goes
-pub bytes_between : (s : List ℕ) (p : Span) (a b : ℕ) → a ≡ min p.start (length s) → b ≡ min p.len (length s - a) → take (a + b - a) (drop a s) ≡ bytes_of s p
+pub bytes_between : (s : List ℕ) (p : Span) (a e : ℕ) → a ≡ min p.start (length s) → e ≡ a + min p.len (length s - a) → take (e - a) (drop a s) ≡ bytes_of s p
 unfolding bytes_of
-bytes_between s p a b e f = go (dec_le (length s) p.start) (dec_le (length s - p.start) p.len)
+bytes_between s p a e f g = go (dec_le (length s) p.start) (dec_le (length s - p.start) p.len)
   where
-    go : Dec (length s ≤ p.start) → Dec (length s - p.start ≤ p.len) → take (a + b - a) (drop a s) ≡ bytes_of s p
+    go : Dec (length s ≤ p.start) → Dec (length s - p.start ≤ p.len) → take (e - a) (drop a s) ≡ bytes_of s p
     go (yes h) k =
-        let none : a + b - a ≡ 0 = omega arith in
+        let none : e - a ≡ 0 = omega arith in
         rw none (bytes_past s p h)
     go (no h) (yes k) =
         let from : a ≡ p.start = omega arith in
-        let rest : a + b - a ≡ length s - p.start = omega arith in
+        let rest : e - a ≡ length s - p.start = omega arith in
         rw (rest, from) (bytes_over s p k)
     go (no h) (no k) =
         let from : a ≡ p.start = omega arith in
-        let all : a + b - a ≡ p.len = omega arith in
+        let all : e - a ≡ p.len = omega arith in
         rw (all, from) refl
 
 -- a stretch that has a byte begins at its start

@@ -13,7 +13,8 @@ pub fn share_of(part: &Part) -> u64
     ensures { ShareIs part.now result }
 {
     let mut sum = 0;
-    for task in &part.tasks[..part.count] {
+    for k in 0..part.count {
+        let task = &part.tasks[k];
         sum += task.cost * SCALE / task.separation;
     }
     sum

@@ -122,6 +122,13 @@ begun_wrote {p} b e is = record {
   place = e.bytes.place ∙ ap (λ (k : ℕ). k + length p) b.start;
 }
 
+-- the same of a writer that begins further on
+pub begun_room_at : {p before : List ℕ} {w : Writer} → Begun before w → (at : ℕ) → at + length p ≤ length before → Room p (record { out = w.out; at = at })
+begun_room_at b at h = record { fits = omega (arith, h, ap length b.buffer_is) }
+
+pub begun_wrote_at : {p before after : List ℕ} {w now : Writer} → Begun before w → (at : ℕ) → Wrote p (record { out = w.out; at = at }) now → after ≡ now.out.now → Written at p before after now.at
+begun_wrote_at {p} b at e is = record { bytes = is ∙ e.bytes.bytes ∙ ap (written at p) b.buffer_is; place = e.bytes.place }
+
 -- a whole buffer is written from its start
 pub written_start : (p b : List ℕ) → written 0 p b ≡ p ++ drop (length p) b
 unfolding written

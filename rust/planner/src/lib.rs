@@ -64,7 +64,7 @@ pub const STACK_CANDIDATES: usize = 36 * 1024;
 /// Bytes of stack that [`name`] needs.
 pub const STACK_NAME: usize = 32 * 1024;
 /// Bytes of stack that [`weigh`] needs.
-pub const STACK_WEIGH: usize = 5 * 1024;
+pub const STACK_WEIGH: usize = 4 * 1024;
 /// Bytes of stack that [`supply`] needs.
 pub const STACK_SUPPLY: usize = 1024;
 

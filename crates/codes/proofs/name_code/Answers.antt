@@ -5,6 +5,7 @@ use native.Mathlib.Omega.{arith}
 use mathlib.Core.Path.{◌≡◌, sym, subst}
 use mathlib.Core.Bool.{true}
 use mathlib.Core.List.{List, [], ◌∷◌, ◌++◌}
+use Rattle.std.proofs.lemmas.Grind.{common_steps}
 use Rattle.fields.specs.Fields.{is_name_byte}
 use Rattle.codes.proofs.Codes.{Read, read_none, read_more, read_fits, read_stop, read_all, code_of_length}
 use Rattle.codes.proofs.name_code.Goals as goal
@@ -27,7 +28,8 @@ returns-then-f-lt1 c = sym (code_of_length _ c.then-f-lt1.either)
 pub loop-b-init : goal.loop-b-init
 loop-b-init c =
     let f = c.args.f.now in
-    (c.if-f-lt1.false, c.if-f-gt-NAME_LIMIT.false, subst (λ (r : List ℕ). Read f r 0) (cc) (read_none f))
+    let e : f ≡ c.into_iter-b-iterator.result.iter.rest.now = grind (arith, common_steps) in
+    (c.if-f-lt1.false, c.if-f-gt-NAME_LIMIT.false, subst (λ (r : List ℕ). Read f r 0) e (read_none f))
 
 pub returns-then-not-is_name_byte : goal.returns-then-not-is_name_byte
 returns-then-not-is_name_byte c = sym (read_stop _ _ _ _ (read (goal.at.returns-then-not-is_name_byte c).In-Some) (cc))

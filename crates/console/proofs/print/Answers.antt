@@ -9,7 +9,7 @@ use Rattle.console.proofs.print.Goals as goal
 pub write_refusal-count-requires : goal.write_refusal-count-requires
 write_refusal-count-requires c =
     let p = c.plan-p in
-    refusal_room _ _ p.new.out (omega arith) (omega arith) (omega arith)
+    omega (arith, refusal_room c.number-number.result c.place-place.result p.new.out (omega arith) (omega arith) (omega arith))
 
 pub returns-in-Done-clause-bytes : goal.returns-in-Done-clause-bytes
 returns-in-Done-clause-bytes c =

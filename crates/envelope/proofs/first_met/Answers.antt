@@ -27,7 +27,7 @@ returns-then-limit-x c =
 pub returns-then-next-t : goal.returns-then-next-t
 returns-then-next-t c =
     let at = c.loop-t in
-    sym (met_here _ _ _ _ _ _ c.requires.0 _ _ _ at.invariant.0 at.invariant.1 c.loop-t-test.true (omega (arith, next_is (goal.at.returns-then-next-t c).After-div_ceil-next, c.if-next-t.true)))
+    sym (met_here _ _ _ _ _ _ c.requires.0 _ _ _ at.invariant.0 at.invariant.1 c.loop-t-test.true (omega (arith, next_is (goal.at.returns-then-next-t c).After-div_ceil-next)))
 
 pub loop-t-preserved-then-left-gt0 : goal.loop-t-preserved-then-left-gt0
 loop-t-preserved-then-left-gt0 c =

@@ -31,10 +31,10 @@ more c = c.loop-b.invariant.1 ∙ number_more c.args.f.now c.loop-b.b-index c.lo
 
 pub returns-then-v-gt-NUMBER_LIMIT : goal.returns-then-v-gt-NUMBER_LIMIT
 returns-then-v-gt-NUMBER_LIMIT c =
-    sym (more (goal.at.returns-then-v-gt-NUMBER_LIMIT c).Else-not-is_ascii_digit ∙ rw (← c.from.ensures) (number_large _ (drop (c.loop-b.b-index + 1) c.args.f.now) c.if-v-gt-NUMBER_LIMIT.true))
+    sym (more (goal.at.returns-then-v-gt-NUMBER_LIMIT c).Else-not-is_ascii_digit ∙ rw (← c.from.ensures) (number_large _ (drop (c.loop-b.b-index + 1) c.args.f.now) (omega arith)))
 
 pub loop-b-preserved : goal.loop-b-preserved
-loop-b-preserved c = (c.if-v-gt-NUMBER_LIMIT.false, rw c.from.ensures (more (goal.at.loop-b-preserved c).Else-not-is_ascii_digit))
+loop-b-preserved c = (omega arith, rw c.from.ensures (more (goal.at.loop-b-preserved c).Else-not-is_ascii_digit))
 
 pub returns : goal.returns
 returns c =

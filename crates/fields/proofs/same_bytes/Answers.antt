@@ -1,7 +1,8 @@
 -- `fields::same_bytes` meets its contract.
 -- Assumes nothing.
-use Rattle.fields.proofs.Bytewise.{same_pointwise}
+use native.Mathlib.Omega.{arith}
+use Rattle.fields.proofs.Bytewise.{same_pointwise, same_parts, take_whole}
 use Rattle.fields.proofs.same_bytes.Goals as goal
 
 pub returns : goal.returns
-returns c = cc (same_pointwise c.args.a.now c.args.b.now)
+returns c = grind (arith, same_pointwise, take_whole, same_parts c.args.a.now c.args.b.now)

@@ -6,7 +6,7 @@ use Rattle.text.specs.Bytes.{bytes}
 use Rattle.text.specs.Decimal.{digits_of}
 use Rattle.writer.specs.declared.Writer.{Writer}
 use Rattle.writer.specs.Code.Written.{Room, Wrote}
-use Rattle.writer.proofs.Written.{Left, left_all, left_room, left_more, left_last, begun_room, begun_wrote}
+use Rattle.writer.proofs.Written.{Left, left_all, left_room, left_more, left_last, begun_room_at, begun_wrote_at}
 use Rattle.listing.specs.Listing.{refused_line}
 use Rattle.listing.proofs.Lines.{closed, last_two, two_pieces, refused_pieces}
 use Rattle.listing.proofs.write_refusal.Goals as goal
@@ -21,24 +21,24 @@ module _ (n k : ℕ) {w a : Writer} (room : Room (refused_line n k) w) (word : W
 
 pub word_field-requires : goal.word_field-requires
 unfolding bytes
-word_field-requires c = left_room _ (refused_pieces c.args.number c.args.place) (left_all (begun_room c.new-w.ensures.begun c.requires))
+word_field-requires c = left_room _ (refused_pieces c.args.number c.args.place) (left_all (begun_room_at c.new-w.ensures.begun c.args.at c.requires))
 
 pub number_field-requires : goal.number_field-requires
 unfolding bytes
 number_field-requires c =
     let a = c.args in
-    left_room _ (two_pieces a.number a.place) (behind_word a.number a.place (begun_room c.new-w.ensures.begun c.requires) c.word_field.ensures)
+    left_room _ (two_pieces a.number a.place) (behind_word a.number a.place (begun_room_at c.new-w.ensures.begun c.args.at c.requires) c.word_field.ensures)
 
 pub number_field-requires-2 : goal.number_field-requires-2
 unfolding bytes
 number_field-requires-2 c =
     let a = c.args in
-    (behind_number a.number a.place (begun_room c.new-w.ensures.begun c.requires) c.word_field.ensures c.number_field.ensures).room
+    (behind_number a.number a.place (begun_room_at c.new-w.ensures.begun c.args.at c.requires) c.word_field.ensures c.number_field.ensures).room
 
 pub returns : goal.returns
 unfolding bytes
 returns c =
     let a = c.args in
-    let left = behind_number a.number a.place (begun_room c.new-w.ensures.begun c.requires) c.word_field.ensures c.number_field.ensures in
-    let all : Wrote (refused_line a.number a.place) c.new-w.result c.number_field-2.new.self = left_last left c.number_field-2.ensures in
-    begun_wrote c.new-w.ensures.begun all (search rules)
+    let left = behind_number a.number a.place (begun_room_at c.new-w.ensures.begun c.args.at c.requires) c.word_field.ensures c.number_field.ensures in
+    let all : Wrote (refused_line a.number a.place) (record { out = c.new-w.result.out; at = a.at }) c.number_field-2.new.self = left_last left c.number_field-2.ensures in
+    begun_wrote_at c.new-w.ensures.begun a.at all (search rules)

@@ -2,6 +2,9 @@
 --   part_of s r        == the part that the struct `PartRead` stands for, whose names are stretches of the file s
 --   parts_in s f       == the parts that the struct `PlanFile` holds;  spans_in f == where their names stand
 --   FineCounts r       == the counts of the struct `PartRead` are within the places that there are, and count the same locks
+--   no_part_read       == the struct `PartRead` of a part of which nothing was read
+--   no_file            == the struct `PlanFile` of a file of which nothing was read
+--   NoPartIn f         == the struct `PlanFile` has all its places, and none counts
 --   PartsFine f        == so are the count of the struct `PlanFile` and those of its parts
 --   LinesFrom n s f    == f has the parts of the file s, whose first line has the number n, each as it would be in a file by itself; its counts are fine, and each
 --                         part's name is the stretch of its `part` line
@@ -11,7 +14,7 @@
 --   ReadIs s f         == `ReadFromIs` of a file by itself: its lines are numbered from 1
 -- The one place where counts and unused places of these structs occur.
 -- Assumes nothing.
-use Rattle.std.specs.Prelude.{ℕ, ◌≤◌, ◌<◌, ◌≡◌, Bool, false, List, [], ◌∷◌, map, length, take, set, get_or, Option}
+use Rattle.std.specs.Prelude.{ℕ, ◌≤◌, ◌<◌, ◌≡◌, Bool, false, List, [], ◌∷◌, map, length, take, set, get_or}
 use Rattle.least.specs.Lists.{pad}
 use Rattle.refusal.specs.declared.Refusal.{Refusal}
 use Rattle.refusal.specs.Limits.{part_limit, task_limit, lock_limit}
@@ -25,7 +28,7 @@ use Rattle.plan_file.specs.Above.{FilePart}
 use Rattle.plan_file.specs.Reading.{read_from}
 use Rattle.plan_file.specs.Stretches.{name_spans, no_span}
 use Rattle.plan_file.specs.Numbers.{PlanPart, plan_part, numbered}
-use Rattle.plan_file.specs.Code.Entries.{FineNames, names_of}
+use Rattle.plan_file.specs.Code.Entries.{FineNames, no_names, no_task_read, names_of}
 use Rattle.sharing.specs.Code.Sharing.{codes_of, marks_at}
 use Rattle.reader.specs.declared.PartRead.{PartRead}
 use Rattle.reader.specs.declared.PlanFile.{PlanFile}
@@ -44,6 +47,14 @@ closed_part name P ts n locks = record {
   locks = locks;
 }
 
+-- a part of which nothing was read
+abbrev pub no_part_read : PartRead
+no_part_read = closed_part no_span 0 (pad task_limit no_task_read []) 0 no_names
+
+-- a place for a file of which nothing was read
+unfoldable pub no_file : PlanFile
+no_file = record { parts = pad part_limit no_part_read []; count = 0 }
+
 -- what is read past the end of an array of parts, which nobody does
 abbrev pub blank_part : PartRead
 blank_part = record { name = no_span; part = record { period = 0; tasks = []; count = 0; locks = 0; shared = [] }; locks = record { count = 0; span = [] } }
@@ -60,6 +71,10 @@ pub record PartsFine (f : PlanFile) : Type 0 where
   pub room : length f.parts ≡ part_limit
   pub counts : (k : ℕ) → k < f.count → FineCounts (get_or f.parts k blank_part)
 
+pub record NoPartIn (f : PlanFile) : Type 0 where
+  pub count : f.count ≡ 0
+  pub room : length f.parts ≡ part_limit
+
 abbrev pub spans_in : PlanFile → List Span
 spans_in f = map (λ p. p.name) (take f.count f.parts)
 
@@ -75,7 +90,7 @@ pub record LinesFrom (n : ℕ) (s : List ℕ) (f : PlanFile) : Type 0 where
   pub spans : spans_in f ≡ name_spans s
 
 -- the rows of the numbers of their lock names, and a part with these marks
-abbrev pub rows_in : List ℕ → PlanFile → List (List (Option ℕ))
+abbrev pub rows_in : List ℕ → PlanFile → List (List ℕ)
 rows_in s f = map (λ p. codes_of s p.locks) (take f.count f.parts)
 
 abbrev pub marked : List Bool → PartRead → PartRead

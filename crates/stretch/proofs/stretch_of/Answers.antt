@@ -6,4 +6,4 @@ use Rattle.stretch.proofs.Stretch.{bytes_between}
 use Rattle.stretch.proofs.stretch_of.Goals as goal
 
 pub returns : goal.returns
-returns c = record { block = refl; offset = omega arith; bytes = bytes_between _ _ _ _ c.min-start.ensures c.min.ensures }
+returns c = record { block = refl; offset = omega arith; bytes = bytes_between _ _ _ _ (omega (arith, c.min-start.ensures)) (omega (arith, c.min.ensures, c.min-start.ensures)) }

@@ -14,4 +14,4 @@ pub returns : goal.returns
 returns c =
     let a = c.args in
     let all = steps a.p a.q a.t c.div_ceil-k.result (omega arith) (omega arith) (omega arith) (omega arith) c.if-t-gap.false (c.div_ceil-k.ensures ∙ div_ceil_is _ _ (omega arith)) in
-    rw c.saturating_sub.ensures (sym all.is)
+    omega (arith, c.saturating_sub.ensures, all.is)

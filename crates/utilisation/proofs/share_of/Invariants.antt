@@ -8,5 +8,5 @@ use Rattle.task_set.specs.Code.Tasks.{tasks_of}
 use Rattle.utilisation.specs.Code.Utilisation.{share_in}
 use Rattle.utilisation.proofs.share_of.Given as goal
 
-abbrev pub invariant-loop-task : goal.invariant-loop-task
-invariant-loop-task l = (l.sum + share_in (drop l.task-index (tasks_of l.part)) ≡ share_in (tasks_of l.part)) × (l.sum ≤ l.task-index * slope_scale)
+abbrev pub invariant-loop-k : goal.invariant-loop-k
+invariant-loop-k l = (l.sum + share_in (drop l.k (tasks_of l.part)) ≡ share_in (tasks_of l.part)) × (l.sum ≤ l.k * slope_scale) × (l.k ≤ 16)

@@ -5,7 +5,7 @@ use mathlib.Core.Path.{◌≡◌, refl, sym, ap, ap₂, ◌∙◌}
 use mathlib.Core.List.{List, ◌++◌, append_assoc}
 use native.Mathlib.Omega.{arith}
 use lib.ListN.{length, take, drop}
-use lib.Seq.{drop-drop}
+use lib.Seq.{drop-drop, take_all}
 use borrow.Rule.Slice.PartMut.{put_mid}
 use Rattle.writer.specs.Code.Written.{written}
 use Rattle.writer.proofs.Writer.word.Goals as goal
@@ -20,4 +20,6 @@ pub returns : goal.returns
 returns c =
     let w = c.args.self.now in
     let word = c.args.word.now in
-    record { same = refl; bytes = record { bytes = copied w.at _ word _ w.out.now (omega arith) c.copy_from_slice.ensures.after; place = refl } }
+    let l = c.loop-i in
+    let all : l.place-items ≡ word = sym (take_all l.i l.place-items (omega arith)) ∙ l.invariant.1 ∙ take_all l.i word (omega (arith, l.invariant.0)) in
+    record { same = refl; bytes = record { bytes = copied w.at _ word _ w.out.now (omega arith) all; place = refl } }
