@@ -178,10 +178,10 @@ fn mark_shared(s: &[u8], f: &mut PlanFile)
     let n = f.count;
     let mut codes = [[0; LOCK_LIMIT]; PART_LIMIT];
     for (k, part) in f.parts[..n].iter().enumerate() {
-        sharing::put_codes(s, &part.locks, k, &mut codes);
+        sharing::put_numbers(s, &part.locks, k, &mut codes);
     }
     for k in 0..n {
-        f.parts[k].part.shared = sharing::marks_at(&codes, n, k);
+        f.parts[k].part.shared = sharing::marks_by_number(&codes, n, k);
     }
 }
 

@@ -1,9 +1,9 @@
 -- An array filled place by place with what a function gives of a list, the other places as they were at first.
 -- Assumes nothing.
-use Prim.Native.Nat.{ℕ, suc, ◌+◌, ◌≤◌, ◌<◌}
+use Prim.Native.Nat.{ℕ, zero, suc, ◌+◌, ◌≤◌, ◌<◌}
 use native.Mathlib.Numerals.{add-one}
 use native.Mathlib.Omega.{arith}
-use mathlib.Core.Path.{◌≡◌, sym, ap, ap₂, ◌∙◌}
+use mathlib.Core.Path.{◌≡◌, refl, sym, ap, ap₂, ◌∙◌}
 use mathlib.Core.List.{List, [], ◌∷◌, ◌++◌, map, append_assoc}
 use lib.ListN.{length, take, drop, get_or, set, length-map}
 use lib.Seq.{take_all, take-suc, drop-cons, length-take-le, set-append_seam}
@@ -31,6 +31,13 @@ over_next {A} {B} f xs row i d x z h l is =
     ∙ ap (λ (y : B). take i ys ++ (y ∷ drop (suc i) row)) (is ∙ sym (get-map f xs i d z h))
     ∙ sym (append_assoc (take i ys) (get_or ys i z ∷ []) (drop (suc i) row))
     ∙ ap (λ (front : List B). front ++ drop (suc i) row) (sym (take-suc ys i z m)))
+
+-- what a function gives of the elements and of the filler
+pub pad_map : {A B : Type 0} (f : A → B) (n : ℕ) (z : A) (xs : List A) → pad n (f z) (map f xs) ≡ map f (pad n z xs)
+unfolding pad
+pad_map f zero z xs = refl
+pad_map f (suc n) z [] = ap (λ (ys : List _). f z ∷ ys) (pad_map f n z [])
+pad_map f (suc n) z (x ∷ xs) = ap (λ (ys : List _). f x ∷ ys) (pad_map f n z xs)
 
 -- a list that leaves no place
 pub pad_whole : {A : Type 0} (n : ℕ) (z : A) (xs : List A) → length xs ≡ n → pad n z xs ≡ xs

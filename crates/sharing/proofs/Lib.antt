@@ -1,2 +1,4 @@
 pub mod Filled
 pub mod Named
+pub mod Numbered
+pub mod Second

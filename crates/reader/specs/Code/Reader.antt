@@ -14,7 +14,7 @@
 --   ReadIs s f         == `ReadFromIs` of a file by itself: its lines are numbered from 1
 -- The one place where counts and unused places of these structs occur.
 -- Assumes nothing.
-use Rattle.std.specs.Prelude.{ℕ, ◌≤◌, ◌<◌, ◌≡◌, Bool, false, List, [], ◌∷◌, map, length, take, set, get_or}
+use Rattle.std.specs.Prelude.{ℕ, ◌≤◌, ◌<◌, ◌≡◌, Bool, false, List, [], ◌∷◌, map, length, take, set, get_or, Option}
 use Rattle.least.specs.Lists.{pad}
 use Rattle.refusal.specs.declared.Refusal.{Refusal}
 use Rattle.refusal.specs.Limits.{part_limit, task_limit, lock_limit}
@@ -29,7 +29,7 @@ use Rattle.plan_file.specs.Reading.{read_from}
 use Rattle.plan_file.specs.Stretches.{name_spans, no_span}
 use Rattle.plan_file.specs.Numbers.{PlanPart, plan_part, numbered}
 use Rattle.plan_file.specs.Code.Entries.{FineNames, no_names, no_task_read, names_of}
-use Rattle.sharing.specs.Code.Sharing.{codes_of, marks_at}
+use Rattle.sharing.specs.Code.Sharing.{codes_of, marks_at, numbers_of}
 use Rattle.reader.specs.declared.PartRead.{PartRead}
 use Rattle.reader.specs.declared.PlanFile.{PlanFile}
 
@@ -52,7 +52,7 @@ abbrev pub no_part_read : PartRead
 no_part_read = closed_part no_span 0 (pad task_limit no_task_read []) 0 no_names
 
 -- a place for a file of which nothing was read
-unfoldable pub no_file : PlanFile
+abbrev pub no_file : PlanFile
 no_file = record { parts = pad part_limit no_part_read []; count = 0 }
 
 -- what is read past the end of an array of parts, which nobody does
@@ -89,9 +89,12 @@ pub record LinesFrom (n : ℕ) (s : List ℕ) (f : PlanFile) : Type 0 where
   pub fine : PartsFine f
   pub spans : spans_in f ≡ name_spans s
 
--- the rows of the numbers of their lock names, and a part with these marks
-abbrev pub rows_in : List ℕ → PlanFile → List (List ℕ)
+-- the rows of the numbers of their lock names, the same with 0 for none, and a part with these marks
+abbrev pub rows_in : List ℕ → PlanFile → List (List (Option ℕ))
 rows_in s f = map (λ p. codes_of s p.locks) (take f.count f.parts)
+
+abbrev pub numbers_in : List ℕ → PlanFile → List (List ℕ)
+numbers_in s f = map (λ p. numbers_of s p.locks) (take f.count f.parts)
 
 abbrev pub marked : List Bool → PartRead → PartRead
 marked marks r = record {

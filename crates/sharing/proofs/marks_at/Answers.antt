@@ -1,20 +1,17 @@
 -- `sharing::marks_at` meets its contract: each turn fills one place.
 -- Assumes nothing.
 use native.Mathlib.Omega.{arith}
-use Prim.Native.Nat.{ℕ}
-use mathlib.Core.Path.{◌≡◌, refl, ap, ◌∙◌}
-use mathlib.Core.Bool.{Bool, false}
-use mathlib.Core.List.{List}
-use lib.ListN.{take, length-map}
+use mathlib.Core.Path.{◌≡◌, refl, ◌∙◌}
+use mathlib.Core.Bool.{false}
+use mathlib.Core.List.{[]}
+use Rattle.std.proofs.Common.{None}
+use lib.ListN.{length, take, get_or, length-map}
+use lib.Seq.{take-length}
 use Rattle.least.specs.Lists.{pad}
 use Rattle.refusal.specs.Limits.{lock_limit}
 use Rattle.sharing.proofs.Filled.{filled_next, filled_all, pad_whole}
 use Rattle.sharing.specs.Code.Sharing.{code_shared}
 use Rattle.sharing.proofs.marks_at.Goals as goal
-
--- the first n parts are looked at
-among : (m n : ℕ) (parts : List (List ℕ)) (code : ℕ) (r : Bool) → r ≡ code_shared (take m parts) code → m ≡ n → r ≡ code_shared (take n parts) code
-among m n parts code r e same = e ∙ ap (λ (k : ℕ). code_shared (take k parts) code) same
 
 pub loop-j-init : goal.loop-j-init
 unfolding pad
@@ -22,12 +19,14 @@ loop-j-init c = refl
 
 pub loop-j-preserved : goal.loop-j-preserved
 loop-j-preserved c =
-    let row = c.told-parts c.args.k c.requires.1 in
-    filled_next _ lock_limit false _ (omega (arith, row)) c.loop-j.j _ _ _ c.loop-j.invariant (omega (arith, row, c.loop-j-test.true)) (among _ c.args.n c.args.parts.now _ _ c.is_shared.ensures (omega arith))
+    let row = c.told-parts c.args.k c.requires in
+    -- what `cc` is told: all rows are the rows
+    let whole : take (length c.args.parts.now) c.args.parts.now ≡ c.args.parts.now = take-length c.args.parts.now in
+    filled_next (code_shared c.args.parts.now) lock_limit false (get_or c.args.parts.now c.args.k []) (omega (arith, row)) c.loop-j.j None c.loop-j.marks c.is_code_shared.result c.loop-j.invariant (omega (arith, row, c.loop-j-test.true)) (let is = c.is_code_shared.ensures in cc is)
 
 pub returns : goal.returns
 returns c =
-    let row = c.told-parts c.args.k c.requires.1 in
-    let test = code_shared (take c.args.n c.args.parts.now) in
+    let row = c.told-parts c.args.k c.requires in
+    let test = code_shared c.args.parts.now in
     filled_all test lock_limit false _ (omega (arith, row)) c.loop-j.j _ c.loop-j.invariant (omega (arith, row, c.loop-j-test.false))
     ∙ pad_whole lock_limit false _ (length-map _ test ∙ row)

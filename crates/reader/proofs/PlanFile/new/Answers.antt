@@ -5,11 +5,10 @@ use lib.ListN.{replicate}
 use Rattle.least.specs.Lists.{pad}
 use Rattle.reader.specs.declared.PartRead.{PartRead}
 use Rattle.reader.specs.declared.PlanFile.{PlanFile}
-use Rattle.reader.specs.Code.Reader.{no_file}
 use Rattle.reader.proofs.PlanFile.new.Goals as goal
 
 pub returns : goal.returns
-unfolding pad no_file
+unfolding pad
 returns c =
     let places : PartRead → PlanFile = λ p. record { parts = replicate 16 p; count = 0 } in
     ap places c.no_part.ensures
